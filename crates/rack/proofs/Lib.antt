@@ -1,0 +1,14 @@
+pub mod Logic
+pub mod Lists
+pub mod Tables
+pub mod Paths
+pub mod Hops
+pub mod Columns
+pub mod Crossing
+pub mod Uniqueness
+pub mod Refusals
+pub mod Acceptance
+pub mod FewColumns
+pub mod WiringFile
+pub mod Parity
+pub mod Promises

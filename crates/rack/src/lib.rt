@@ -1,0 +1,1 @@
+// Wirings, hops, columns, addresses and embeddings: definitions in specs/, their mathematics in proofs/. No code.
