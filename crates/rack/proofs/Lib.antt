@@ -10,5 +10,6 @@ pub mod Refusals
 pub mod Acceptance
 pub mod FewColumns
 pub mod WiringFile
+pub mod Accepted
 pub mod Parity
 pub mod Promises

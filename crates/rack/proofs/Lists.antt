@@ -130,6 +130,12 @@ pub count-all : {A : Type 0} (xs : List A) → count (λ x. true) xs ≡ length 
 count-all [] = refl
 count-all (x ∷ xs) = let h = count-all xs in omega arith
 
+pub count-le-length : {A : Type 0} (p : A → Bool) (xs : List A) → count p xs ≤ length xs
+count-le-length p [] = omega arith
+count-le-length p (x ∷ xs) =
+    let h = count-le-length p xs in
+    by-bool (p x) (λ (t : p x ≡ true). rw t (omega arith)) (λ (t : p x ≡ false). rw t (omega arith))
+
 pub count-ext : {A : Type 0} (p q : A → Bool) (xs : List A) → ((v : A) → In v xs → p v ≡ q v) → count p xs ≡ count q xs
 count-ext p q [] h = refl
 count-ext p q (x ∷ xs) h = cc (h x (inl refl), count-ext p q xs (λ v m. h v (inr m)))

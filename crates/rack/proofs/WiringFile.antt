@@ -7,7 +7,7 @@ use native.Mathlib.Omega.{arith}
 use lib.Dec.{ltb, leb, eqb}
 use lib.ListN.{length, getD, take, drop, length-append, length-drop, List·getD-append}
 use lib.Seq.{drop-cons, getD-append-add, take-add, take-all, drop-drop}
-use borrow.Author.Tests.{eqb-true, ltb-true, ltb-false, leb-true, not-false}
+use borrow.Author.Tests.{eqb-true, eq-eqb, ltb-true, ltb-false, le-ltb, leb-true, le-leb, not-false}
 use Rattle.rack.specs.Lists.{all, blocks}
 use Rattle.rack.specs.Wiring.{Link, Wiring, link, wiring, link-count, link-at}
 use Rattle.rack.specs.WiringFile.{most-cards, most-links, number-at, wiring-at, file-wiring, sizes-fault, two-bytes, end-bytes, file-bytes}
@@ -20,7 +20,7 @@ pub length-two-bytes : (v : ℕ) → length (two-bytes v) ≡ 2
 unfolding two-bytes
 length-two-bytes v = refl
 
-two-bytes-value : (v : ℕ) → v < 65536 → v % 256 + 256 * (v / 256 % 256) ≡ v
+pub two-bytes-value : (v : ℕ) → v < 65536 → v % 256 + 256 * (v / 256 % 256) ≡ v
 two-bytes-value v h = omega arith
 
 value-two-bytes : (x y : ℕ) → x < 256 → y < 256 → two-bytes (x + 256 * y) ≡ x ∷ y ∷ []
@@ -150,6 +150,30 @@ sizes-clear bs h =
       cards = leb-true n most-cards (and-right (leb 1 n) (leb n most-cards) r);
       links = ltb-false most-links m (c₄ .0);
       long = eqb-true (length bs) (4 + 4 * m) (not-false (eqb (length bs) (4 + 4 * m)) (c₅ .0));
+    }
+
+pub sized-clear : (bs : List ℕ) → Sized bs → sizes-fault bs ≡ 0
+unfolding sizes-fault
+sized-clear bs z =
+    rw (
+      le-ltb (length bs) 4 (z .head),
+      le-leb 1 (number-at bs 0) (z .some),
+      le-leb (number-at bs 0) most-cards (z .cards),
+      le-ltb most-links (number-at bs 2) (z .links),
+      eq-eqb (length bs) (4 + 4 * number-at bs 2) (z .long),
+    ) refl
+
+pub file-bytes-sized : (w : Wiring) → Fits w → 1 ≤ w .cards → w .cards ≤ most-cards → link-count w ≤ most-links → Sized (file-bytes w)
+unfolding file-bytes number-at two-bytes
+file-bytes-sized w f some cards links =
+    let n : number-at (file-bytes w) 0 ≡ w .cards = two-bytes-value (w .cards) (f .cards) in
+    let m : number-at (file-bytes w) 2 ≡ link-count w = two-bytes-value (link-count w) (f .count) in
+    record {
+      head = omega arith;
+      some = omega arith;
+      cards = omega arith;
+      links = omega arith;
+      long = rw m (omega (arith, length-end-bytes w));
     }
 
 -- THE FILE of a file's wiring is the file

@@ -1,0 +1,88 @@
+-- A step depends on its two cards, the first card's links, their addresses and the sizes, and on nothing else. Assumes nothing.
+use mathlib.Core.Path.{_≡_, refl, sym, ap, ap₂, _∙_}
+use mathlib.Core.Bool.{Bool, true, false, _&&_, and-comm, and-true, and-false}
+use mathlib.Core.Logic.{inl, inr, _≢_}
+use mathlib.Core.List.{List}
+use Prim.Native.Nat.{ℕ, _<_}
+use native.Mathlib.Omega.{arith}
+use lib.Dec.{ltb}
+use Rattle.rack.specs.Lists.{differ, range, lowest}
+use Rattle.rack.specs.Wiring.{Link, link-count, link-at, touches, other-end}
+use Rattle.rack.specs.Columns.{hamming}
+use Rattle.rack.proofs.Logic.{by-bool, by-eq, by-lt}
+use Rattle.rack.proofs.Lists.{count-ext}
+use Rattle.rack.proofs.Tables.{range-in, lowest-passes, lowest-ext}
+use Rattle.rack.proofs.Paths.{Ends}
+use Rattle.rack.proofs.WiringFile.{wiring-at-count}
+use Rattle.reader.specs.Plan.{plan-cards, plan-columns, plan-wiring, plan-bit, plan-hamming}
+use Rattle.forwarder.specs.Forwarding.{step-of, leads-nearer, step}
+use Rattle.forwarder.specs.Promises.{Link-of, Step-local}
+use Rattle.forwarder.proofs.Step.{touches-ends, nearer-facts, next-link, step-here, step-over, step-stuck}
+
+-- the test of a link by card a and the other end
+abbrev other-test : List ℕ → (a b c : ℕ) → Bool
+other-test ps a b c = ltb a (plan-cards ps) && ltb c (plan-cards ps) && ltb (plan-hamming ps c b) (plan-hamming ps a b)
+
+ends-test : (n a : ℕ) (l : Link) → Ends a (other-end a l) l → (ltb (l .first) n && ltb (l .second) n) ≡ (ltb a n && ltb (other-end a l) n)
+ends-test n a l (inl e) = ap₂ (λ (x y : ℕ). ltb x n && ltb y n) (e .0) (e .1)
+ends-test n a l (inr e) = ap₂ (λ (x y : ℕ). ltb x n && ltb y n) (e .0) (e .1) ∙ and-comm (ltb (other-end a l) n) (ltb a n)
+
+leads-nearer-other : (ps : List ℕ) (a b : ℕ) (l : Link) → leads-nearer ps a b l ≡ (touches a l && other-test ps a b (other-end a l))
+unfolding leads-nearer
+leads-nearer-other ps a b l =
+    by-bool (touches a l)
+    (λ (t : touches a l ≡ true). rw (t, ends-test (plan-cards ps) a l (touches-ends a l t), and-true (ltb a (plan-cards ps) && ltb (other-end a l) (plan-cards ps))) refl)
+    (λ (t : touches a l ≡ false). rw (t, and-false (ltb (l .first) (plan-cards ps) && ltb (l .second) (plan-cards ps))) refl)
+
+hamming-ext : (ps qs : List ℕ) (c d b : ℕ) → plan-columns ps ≡ plan-columns qs → ((j : ℕ) → j < plan-columns ps → plan-bit ps c j ≡ plan-bit qs d j)
+    → ((j : ℕ) → j < plan-columns ps → plan-bit ps b j ≡ plan-bit qs b j) → plan-hamming ps c b ≡ plan-hamming qs d b
+unfolding plan-hamming hamming
+hamming-ext ps qs c d b e hc hb =
+    rw (← e)
+    (count-ext (λ j. differ (plan-bit ps c j) (plan-bit ps b j)) (λ j. differ (plan-bit qs d j) (plan-bit qs b j)) (range (plan-columns ps))
+    (λ j m. let l = range-in (plan-columns ps) j m in ap₂ differ (hc j l) (hb j l)))
+
+pub step-local : Step-local
+unfolding Step-local
+step-local ps qs a b en em ek touch other bits far = by-eq a b here there
+  where
+    counts : link-count (plan-wiring ps) ≡ link-count (plan-wiring qs)
+    counts = wiring-at-count 6 ps ∙ em ∙ sym (wiring-at-count 6 qs)
+
+    here : a ≡ b → step ps a b ≡ step qs a b
+    here e = rw e (step-here ps b ∙ sym (step-here qs b))
+
+    same-hamming : plan-hamming ps a b ≡ plan-hamming qs a b
+    same-hamming = hamming-ext ps qs a a b ek (λ j l. bits j l .0) (λ j l. bits j l .1)
+
+    far-hamming : (i : ℕ) → Link-of ps a i → plan-hamming ps (other-end a (link-at (plan-wiring ps) i)) b ≡ plan-hamming qs (other-end a (link-at (plan-wiring qs) i)) b
+    far-hamming i h =
+        hamming-ext ps qs (other-end a (link-at (plan-wiring ps) i)) (other-end a (link-at (plan-wiring qs) i)) b ek
+        (λ j l. far i j h l ∙ ap (λ (c : ℕ). plan-bit qs c j) (other i h)) (λ j l. bits j l .1)
+
+    same-other : (i : ℕ) → Link-of ps a i → other-test ps a b (other-end a (link-at (plan-wiring ps) i)) ≡ other-test qs a b (other-end a (link-at (plan-wiring qs) i))
+    same-other i h =
+        ap₂ _&&_ (ap₂ _&&_ (ap (ltb a) en) (ap₂ ltb (other i h) en)) (ap₂ ltb (far-hamming i h) same-hamming)
+
+    same-test : (i : ℕ) → i < link-count (plan-wiring ps) → leads-nearer ps a b (link-at (plan-wiring ps) i) ≡ leads-nearer qs a b (link-at (plan-wiring qs) i)
+    same-test i h =
+        let t = touch i (omega (arith, wiring-at-count 6 ps)) in
+        leads-nearer-other ps a b (link-at (plan-wiring ps) i)
+        ∙ by-bool (touches a (link-at (plan-wiring ps) i))
+        (λ e. ap₂ _&&_ t (same-other i (h, e)))
+        (λ e. ap (λ (x : Bool). x && other-test ps a b (other-end a (link-at (plan-wiring ps) i))) e ∙ sym (ap (λ (x : Bool). x && other-test qs a b (other-end a (link-at (plan-wiring qs) i))) (sym t ∙ e)))
+        ∙ sym (leads-nearer-other qs a b (link-at (plan-wiring qs) i))
+
+    same-next : next-link ps a b ≡ next-link qs a b
+    same-next =
+        lowest-ext (link-count (plan-wiring ps)) (λ i. leads-nearer ps a b (link-at (plan-wiring ps) i)) (λ i. leads-nearer qs a b (link-at (plan-wiring qs) i)) same-test
+        ∙ ap (λ (n : ℕ). lowest n (λ i. leads-nearer qs a b (link-at (plan-wiring qs) i))) counts
+
+    there : a ≢ b → step ps a b ≡ step qs a b
+    there n =
+        by-lt (next-link ps a b) (link-count (plan-wiring ps))
+        (λ h. let f = nearer-facts ps a b (link-at (plan-wiring ps) (next-link ps a b)) (lowest-passes (link-count (plan-wiring ps)) (λ i. leads-nearer ps a b (link-at (plan-wiring ps) i)) h) in
+        step-over ps a b n h
+        ∙ ap₂ (step-of 2) same-next (other (next-link ps a b) (h, f .of-a) ∙ ap (λ (i : ℕ). other-end a (link-at (plan-wiring qs) i)) same-next)
+        ∙ sym (step-over qs a b n (omega (arith, counts, same-next))))
+        (λ h. step-stuck ps a b n h ∙ sym (step-stuck qs a b n (omega (arith, counts, same-next))))

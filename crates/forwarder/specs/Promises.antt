@@ -1,0 +1,66 @@
+-- What is promised of steps and walks. Each statement is proved in proofs/Promises.antt under its name.
+use mathlib.Core.Path.{_≡_}
+use mathlib.Core.Bool.{Bool, true, false}
+use mathlib.Core.Logic.{_≢_}
+use mathlib.Core.List.{List, [], _∷_}
+use Prim.Native.Nat.{ℕ, _≤_, _<_}
+use lib.ListN.{length}
+use Rattle.rack.specs.Wiring.{link-count, link-at, touches, other-end}
+use Rattle.rack.specs.Hops.{hops, is-path}
+use Rattle.reader.specs.Plan.{plan-cards, plan-links, plan-columns, plan-wiring, layout-holds, plan-refusal, plan-bit}
+use Rattle.forwarder.specs.Forwarding.{step-of, leads-nearer, step, walk}
+
+-- "It takes the first whose far address differs from b's in fewer places than a's own does": arrived exactly if a = b,
+-- over a link exactly if that link leads nearer and no lower one does, else stuck
+unfoldable pub Step-first : Type 0
+Step-first =
+    (ps : List ℕ) (a b : ℕ) →
+    let w = plan-wiring ps in
+    let nearer : ℕ → Bool = λ i. leads-nearer ps a b (link-at w i) in
+    (a ≡ b → step ps a b ≡ step-of 1 0 0)
+    × ((i : ℕ) → a ≢ b → i < link-count w → nearer i ≡ true → ((j : ℕ) → j < i → nearer j ≡ false) →
+    step ps a b ≡ step-of 2 i (other-end a (link-at w i)))
+    × (a ≢ b → ((i : ℕ) → i < link-count w → nearer i ≡ false) → step ps a b ≡ step-of 0 0 0)
+
+-- link i is one of card a's in the plan
+abbrev pub Link-of : List ℕ → (a i : ℕ) → Type 0
+Link-of ps a i = (i < link-count (plan-wiring ps)) × (touches a (link-at (plan-wiring ps) i) ≡ true)
+
+-- "The step depends on a and b, a's links, the far addresses, a's own address and b's, and on nothing else beyond the three sizes"
+unfoldable pub Step-local : Type 0
+Step-local =
+    (ps qs : List ℕ) (a b : ℕ) → plan-cards ps ≡ plan-cards qs → plan-links ps ≡ plan-links qs → plan-columns ps ≡ plan-columns qs →
+    ((i : ℕ) → i < plan-links ps → touches a (link-at (plan-wiring ps) i) ≡ touches a (link-at (plan-wiring qs) i)) →
+    ((i : ℕ) → Link-of ps a i → other-end a (link-at (plan-wiring ps) i) ≡ other-end a (link-at (plan-wiring qs) i)) →
+    ((j : ℕ) → j < plan-columns ps → (plan-bit ps a j ≡ plan-bit qs a j) × (plan-bit ps b j ≡ plan-bit qs b j)) →
+    ((i j : ℕ) → Link-of ps a i → j < plan-columns ps →
+    let c = other-end a (link-at (plan-wiring ps) i) in plan-bit ps c j ≡ plan-bit qs c j) →
+    step ps a b ≡ step qs a b
+
+-- the cards met and the links taken are those of one step after another, and the last step is not over a link
+abbrev pub Steps-along : List ℕ → (b : ℕ) → (met taken : List ℕ) → Type 0
+Steps-along ps b [] is = ⊥
+Steps-along ps b (c ∷ []) [] = step ps c b .outcome ≡ 2 → ⊥
+Steps-along ps b (c ∷ []) (i ∷ is) = ⊥
+Steps-along ps b (c ∷ d ∷ cs) [] = ⊥
+Steps-along ps b (c ∷ d ∷ cs) (i ∷ is) =
+    (step ps c b .outcome ≡ 2) × (step ps c b .link ≡ i) × (step ps c b .far ≡ d) × Steps-along ps b (d ∷ cs) is
+
+abbrev pub last-of : (c : ℕ) → List ℕ → ℕ
+last-of c [] = c
+last-of c (d ∷ cs) = last-of d cs
+
+-- "A walk repeats steps until arrived or stuck": it begins at a, ends by itself and fits the 256 numbers
+unfoldable pub Walk-ends : Type 0
+Walk-ends =
+    (ps : List ℕ) (a b : ℕ) → layout-holds ps ≡ true →
+    (cs : List ℕ) × (walk ps a b .met ≡ a ∷ cs) × Steps-along ps b (a ∷ cs) (walk ps a b .taken)
+    × (walk ps a b .arrived ≡ step ps (last-of a cs) b .outcome) × (length (a ∷ cs) ≤ 256)
+
+-- "Every frame on a plan that was read arrives by the fewest links": the walk arrives, the cards met are one more than the hops,
+-- the first is a, the last is b, and each is linked to the next
+unfoldable pub Frame-arrives : Type 0
+Frame-arrives =
+    (ps : List ℕ) (a b : ℕ) → plan-refusal ps ≡ 0 → a < plan-cards ps → b < plan-cards ps →
+    (walk ps a b .arrived ≡ 1)
+    × ((cs : List ℕ) × (walk ps a b .met ≡ a ∷ cs) × (is-path (plan-wiring ps) a cs b ≡ true) × (length cs ≡ hops (plan-wiring ps) a b))

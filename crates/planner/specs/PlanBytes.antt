@@ -1,0 +1,27 @@
+-- The plan file that the planner writes for a wiring. Assumes nothing: these are definitions.
+use mathlib.Core.Bool.{Bool}
+use mathlib.Core.List.{List, _++_}
+use Prim.Native.Nat.{ℕ, zero, suc, _+_, _*_, _/_}
+use Rattle.rack.specs.Lists.{one, tabulate, blocks}
+use Rattle.rack.specs.Wiring.{Wiring, link-count}
+use Rattle.rack.specs.WiringFile.{two-bytes, end-bytes}
+use Rattle.rack.specs.Columns.{column-count, address}
+
+-- the number with bits f 0 to f (n - 1), bit 0 counting 1
+unfoldable pub bits-value : (n : ℕ) → (f : ℕ → Bool) → ℕ
+bits-value zero f = 0
+bits-value (suc n) f = one (f 0) + 2 * bits-value n (λ i. f (suc i))
+
+-- B, the bytes of an address of k columns
+unfoldable pub address-size : (k : ℕ) → ℕ
+address-size k = (k + 7) / 8
+
+-- column j is bit j mod 8 of byte j / 8
+unfoldable pub address-bytes : (k : ℕ) → (row : ℕ → Bool) → List ℕ
+address-bytes k row = tabulate (address-size k) (λ t. bits-value 8 (λ i. row (8 * t + i)))
+
+-- n, m, k, the ends of the links, the addresses
+unfoldable pub plan-bytes : Wiring → List ℕ
+plan-bytes w =
+    two-bytes (w .cards) ++ two-bytes (link-count w) ++ two-bytes (column-count w) ++ end-bytes w
+    ++ blocks (w .cards) (λ c. address-bytes (column-count w) (address w c))

@@ -1,0 +1,71 @@
+-- All promises, each proved: what a reader looks for first. Assumes nothing.
+use Rattle.rack.specs.Promises.{Hops-fewest, Connected-paths, No-ties, Card-zero-zeros, Addresses-embed, No-addresses, Embedding-unique, Columns-once, Few-columns, File-as-wiring}
+use Rattle.rack.proofs.Promises as rack
+use Rattle.reader.specs.Promises.{Read-exactly, Reader-promise}
+use Rattle.reader.proofs.Promises as reader
+use Rattle.forwarder.specs.Promises.{Step-first, Step-local, Walk-ends, Frame-arrives}
+use Rattle.forwarder.proofs.Promises as forwarder
+
+-- hops are the fewest links
+pub hops-fewest : Hops-fewest
+hops-fewest = rack.hops-fewest
+
+-- connected means that a path leads from each card to each
+pub connected-paths : Connected-paths
+connected-paths = rack.connected-paths
+
+-- a link splits the cards: none is at equal distance from its ends
+pub no-ties : No-ties
+no-ties = rack.no-ties
+
+-- card 0 has the address of zeros
+pub card-zero-zeros : Card-zero-zeros
+card-zero-zeros = rack.card-zero-zeros
+
+-- the addresses of an accepted rack measure hops
+pub addresses-embed : Addresses-embed
+addresses-embed = rack.addresses-embed
+
+-- "no addresses" is said exactly when there are none
+pub no-addresses : No-addresses
+no-addresses = rack.no-addresses
+
+-- every embedding has the planner's columns
+pub embedding-unique : Embedding-unique
+embedding-unique = rack.embedding-unique
+
+-- each column occurs once
+pub columns-once : Columns-once
+columns-once = rack.columns-once
+
+-- an accepted rack has fewer columns than cards
+pub few-columns : Few-columns
+few-columns = rack.few-columns
+
+-- a well-formed file stands for its wiring
+pub file-as-wiring : File-as-wiring
+file-as-wiring = rack.file-as-wiring
+
+-- a plan is read exactly if the planner writes it
+pub read-exactly : Read-exactly
+read-exactly = reader.read-exactly
+
+-- what the forwarder may lean on
+pub reader-promise : Reader-promise
+reader-promise = reader.reader-promise
+
+-- a step takes the first link that leads nearer
+pub step-first : Step-first
+step-first = forwarder.step-first
+
+-- a step depends on its cards, the first card's links and their addresses
+pub step-local : Step-local
+step-local = forwarder.step-local
+
+-- a walk ends by itself
+pub walk-ends : Walk-ends
+walk-ends = forwarder.walk-ends
+
+-- every frame on a plan that was read arrives by the fewest links
+pub frame-arrives : Frame-arrives
+frame-arrives = forwarder.frame-arrives

@@ -1,0 +1,1 @@
+// All promises, proved, and the table of cases.

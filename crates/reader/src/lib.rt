@@ -1,0 +1,1 @@
+// Plan files as they are read: definitions in specs/, their laws in proofs/.
