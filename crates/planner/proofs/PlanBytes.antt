@@ -1,36 +1,19 @@
 -- The plan bytes of a wiring by their places: sizes, the wiring, and the bits of the addresses. Assumes nothing.
 use mathlib.Core.Path.{_≡_, _∙_}
-use mathlib.Core.Bool.{Bool, true, false}
+use mathlib.Core.Bool.{Bool}
 use mathlib.Core.List.{List, _++_}
-use Prim.Native.Nat.{ℕ, zero, suc, _+_, _*_, _/_, _%_, _^_, _<_}
-use native.Mathlib.Nat.{div-div-eq-div-mul}
+use Prim.Native.Nat.{ℕ, _+_, _*_, _/_, _<_}
 use native.Mathlib.Omega.{arith}
 use lib.ListN.{length, getD, length-append}
 use lib.Seq.{getD-append-add}
-use Rattle.rack.specs.Lists.{one, blocks}
+use Rattle.rack.specs.Lists.{blocks}
+use Rattle.rack.specs.Bits.{bits-value}
 use Rattle.rack.specs.Wiring.{Wiring, link-count}
 use Rattle.rack.specs.WiringFile.{number-at, two-bytes, end-bytes, wiring-at}
 use Rattle.rack.specs.Columns.{column-count, address}
 use Rattle.rack.proofs.Tables.{length-tabulate, getD-tabulate, length-blocks, getD-blocks}
 use Rattle.rack.proofs.WiringFile.{Fits, length-two-bytes, two-bytes-value, length-end-bytes, wiring-at-written}
-use Rattle.planner.specs.PlanBytes.{bits-value, address-size, address-bytes, plan-bytes}
-
--- A NUMBER by its bits
-pub bits-value-bit : (n : ℕ) (f : ℕ → Bool) (i : ℕ) → i < n → bits-value n f / 2 ^ i % 2 ≡ one (f i)
-unfolding bits-value
-bits-value-bit zero f i h = absurd (omega arith)
-bits-value-bit (suc n) f zero h = low (f 0)
-  where
-    low : (b : Bool) → (one b + 2 * bits-value n (λ i. f (suc i))) / 2 ^ 0 % 2 ≡ one b
-    low true = omega arith
-    low false = omega arith
-bits-value-bit (suc n) f (suc i) h =
-    let e : 2 ^ suc i ≡ 2 * 2 ^ i = omega arith in
-    rw (e, ← (div-div-eq-div-mul (one (f 0) + 2 * bits-value n (λ i. f (suc i))) 2 (2 ^ i)), half (f 0)) (bits-value-bit n (λ i. f (suc i)) i (omega arith))
-  where
-    half : (b : Bool) → (one b + 2 * bits-value n (λ i. f (suc i))) / 2 ≡ bits-value n (λ i. f (suc i))
-    half true = omega arith
-    half false = omega arith
+use Rattle.planner.specs.PlanBytes.{address-size, address-bytes, plan-bytes}
 
 -- ADDRESSES
 pub bit-inside : (k j : ℕ) → j < k → j / 8 < address-size k

@@ -1,16 +1,12 @@
 -- The plan file that the planner writes for a wiring. Assumes nothing: these are definitions.
 use mathlib.Core.Bool.{Bool}
 use mathlib.Core.List.{List, _++_}
-use Prim.Native.Nat.{ℕ, zero, suc, _+_, _*_, _/_}
-use Rattle.rack.specs.Lists.{one, tabulate, blocks}
+use Prim.Native.Nat.{ℕ, _+_, _*_, _/_}
+use Rattle.rack.specs.Lists.{tabulate, blocks}
+use Rattle.rack.specs.Bits.{bits-value}
 use Rattle.rack.specs.Wiring.{Wiring, link-count}
 use Rattle.rack.specs.WiringFile.{two-bytes, end-bytes}
 use Rattle.rack.specs.Columns.{column-count, address}
-
--- the number with bits f 0 to f (n - 1), bit 0 counting 1
-unfoldable pub bits-value : (n : ℕ) → (f : ℕ → Bool) → ℕ
-bits-value zero f = 0
-bits-value (suc n) f = one (f 0) + 2 * bits-value n (λ i. f (suc i))
 
 -- B, the bytes of an address of k columns
 unfoldable pub address-size : (k : ℕ) → ℕ

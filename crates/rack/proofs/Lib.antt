@@ -1,6 +1,7 @@
 pub mod Logic
 pub mod Lists
 pub mod Tables
+pub mod Bits
 pub mod Paths
 pub mod Hops
 pub mod Columns

@@ -1,4 +1,5 @@
 pub mod Lists
+pub mod Bits
 pub mod Wiring
 pub mod Hops
 pub mod Columns

@@ -1,13 +1,13 @@
 -- Plan files: the layout's sizes, what reading says of a plan, and that the planner's plans are read. Assumes nothing.
 use mathlib.Core.Path.{_≡_, refl, ap}
-use mathlib.Core.Bool.{Bool, true, false, _&&_, not, cond}
+use mathlib.Core.Bool.{Bool, true, _&&_, not, cond}
 use mathlib.Core.List.{List}
 use Prim.Native.Nat.{ℕ, _+_, _*_, _/_, _%_, _≤_, _<_}
 use native.Mathlib.Omega.{arith}
 use lib.Dec.{leb, eqb}
 use lib.ListN.{length}
 use borrow.Author.Tests.{eqb-true, eq-eqb, leb-true, le-leb, not-false}
-use Rattle.rack.specs.Lists.{one, same}
+use Rattle.rack.specs.Lists.{same}
 use Rattle.rack.specs.Wiring.{Wiring, link-count}
 use Rattle.rack.specs.WiringFile.{most-cards, most-links}
 use Rattle.rack.specs.Columns.{column-count, address}
@@ -15,10 +15,11 @@ use Rattle.rack.specs.Refusals.{wiring-refusal}
 use Rattle.rack.proofs.Logic.{and-left, and-right}
 use Rattle.rack.proofs.Lists.{same-eq, same-self}
 use Rattle.rack.proofs.Refusals.{cond-zero}
+use Rattle.rack.proofs.Bits.{bits-value-number}
 use Rattle.rack.proofs.Accepted.{Accepted, accepted-inside}
 use Rattle.rack.proofs.WiringFile.{Fits}
 use Rattle.planner.specs.PlanBytes.{address-size, plan-bytes}
-use Rattle.planner.proofs.PlanBytes.{bits-value-bit, bit-inside, length-plan, written-cards, written-links, written-columns, written-wiring, written-byte}
+use Rattle.planner.proofs.PlanBytes.{bit-inside, length-plan, written-cards, written-links, written-columns, written-wiring, written-byte}
 use Rattle.reader.specs.Plan.{most-columns, plan-cards, plan-links, plan-columns, layout-holds, plan-wiring, content-holds, plan-refusal, plan-bit}
 
 -- THE LAYOUT
@@ -82,10 +83,6 @@ module _ (ps : List ℕ) where
   unfolding plan-refusal content-holds
   clear-plan l h e = rw (l, eq-eqb (wiring-refusal (plan-wiring ps) .number) 0 h, e, same-self eqb (λ x. eq-eqb x x refl) ps) refl
 
-one-bit : (b : Bool) → eqb (one b) 1 ≡ b
-one-bit true = refl
-one-bit false = refl
-
 -- THE PLAN OF AN ACCEPTED WIRING is read
 module _ (w : Wiring) (a : Accepted w) (high : w .cards ≤ most-cards) (few-links : link-count w ≤ most-links) where
   pub accepted-fits : Fits w
@@ -128,7 +125,7 @@ module _ (w : Wiring) (a : Accepted w) (high : w .cards ≤ most-cards) (few-lin
         written-links w (omega arith),
         written-columns w columns-fit,
         written-byte w c (j / 8) hc (bit-inside (column-count w) j hj),
-        bits-value-bit 8 (λ i. address w c (8 * (j / 8) + i)) (j % 8) (omega arith),
+        bits-value-number 8 (λ i. address w c (8 * (j / 8) + i)) (j % 8) (omega arith),
         e,
       )
-      (one-bit (address w c j))
+      refl

@@ -1,10 +1,11 @@
 -- Plan files as they are read: layout (12), content (13), the wiring and the bits inside. Assumes nothing: these are definitions.
 use mathlib.Core.Bool.{Bool, _&&_, not, cond}
 use mathlib.Core.List.{List}
-use Prim.Native.Nat.{ℕ, _+_, _*_, _/_, _%_, _^_}
+use Prim.Native.Nat.{ℕ, _+_, _*_, _/_, _%_}
 use lib.Dec.{leb, eqb}
 use lib.ListN.{length, getD}
 use Rattle.rack.specs.Lists.{same}
+use Rattle.rack.specs.Bits.{number-bit}
 use Rattle.rack.specs.Wiring.{Wiring}
 use Rattle.rack.specs.WiringFile.{most-cards, most-links, number-at, wiring-at}
 use Rattle.rack.specs.Columns.{hamming}
@@ -44,7 +45,7 @@ plan-refusal ps = cond (not (layout-holds ps)) 12 (cond (not (content-holds ps))
 -- bit j of card c's address, and the differing places of two addresses: only the first k columns count
 unfoldable pub plan-bit : List ℕ → (c j : ℕ) → Bool
 plan-bit ps c j =
-    eqb (getD ps (6 + 4 * plan-links ps + c * address-size (plan-columns ps) + j / 8) 0 / 2 ^ (j % 8) % 2) 1
+    number-bit (getD ps (6 + 4 * plan-links ps + c * address-size (plan-columns ps) + j / 8) 0) (j % 8)
 
 unfoldable pub plan-hamming : List ℕ → (a b : ℕ) → ℕ
 plan-hamming ps a b = hamming (plan-columns ps) (plan-bit ps a) (plan-bit ps b)
