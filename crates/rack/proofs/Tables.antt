@@ -7,9 +7,9 @@ use Prim.Native.Nat.{ℕ, zero, suc, _+_, _*_, _≤_, _<_}
 use native.Mathlib.Omega.{arith}
 use lib.ListN.{length, getD, length-append, List·getD-append, List·getD-eq-default}
 use lib.Seq.{getD-append-add}
-use Rattle.rack.specs.Lists.{count, tabulate, range, blocks, lowest}
+use Rattle.rack.specs.Lists.{one, count, tabulate, range, blocks, lowest}
 use Rattle.rack.proofs.Logic.{true-not-false, by-bool, by-lt}
-use Rattle.rack.proofs.Lists.{In, Distinct, distinct-map, length-le, count-map}
+use Rattle.rack.proofs.Lists.{In, Distinct, distinct-map, length-le, count-ext, count-map}
 
 -- TABLES
 pub length-tabulate : {A : Type 0} (n : ℕ) (f : ℕ → A) → length (tabulate n f) ≡ n
@@ -66,6 +66,16 @@ length-below n xs d h = let k = length-le xs (range n) d (λ v m. in-range n v (
 
 pub count-tabulate : {A : Type 0} (p : A → Bool) (n : ℕ) (f : ℕ → A) → count p (tabulate n f) ≡ count (λ i. p (f i)) (range n)
 count-tabulate p n f = ap (count p) (sym (map-tabulate f n (λ i. i))) ∙ count-map p f (range n)
+
+-- a count over m numbers and n more
+pub count-range-add : (p : ℕ → Bool) (m n : ℕ) → count p (range (m + n)) ≡ count p (range m) + count (λ i. p (m + i)) (range n)
+count-range-add p zero n =
+    let e : 0 + n ≡ n = omega arith in
+    rw e (count-ext p (λ i. p (0 + i)) (range n) (λ i h. ap p (omega arith)) ∙ omega arith)
+count-range-add p (suc m) n =
+    let e : suc m + n ≡ suc (m + n) = omega arith in
+    rw (e, count-tabulate p (m + n) suc, count-range-add (λ i. p (suc i)) m n, count-tabulate p m suc)
+    (ap (λ (x : ℕ). one (p 0) + (count (λ i. p (suc i)) (range m) + x)) (count-ext (λ i. p (suc (m + i))) (λ i. p (suc m + i)) (range n) (λ i h. ap p (omega arith))) ∙ omega arith)
 
 -- BLOCKS of equal length
 pub length-blocks : {A : Type 0} (n b : ℕ) (f : ℕ → List A) → ((i : ℕ) → length (f i) ≡ b) → length (blocks n f) ≡ n * b

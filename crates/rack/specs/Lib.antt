@@ -1,5 +1,6 @@
 pub mod Lists
 pub mod Bits
+pub mod Ones
 pub mod Wiring
 pub mod Hops
 pub mod Columns
