@@ -1,1 +1,10 @@
 pub mod PlanBytes
+pub mod Formed
+pub mod Tables
+pub mod Marks
+pub mod Flags
+pub mod Lowering
+pub mod Opening
+pub mod Stages
+pub mod Planning
+pub mod Writing

@@ -1,1 +1,177 @@
-// The bytes that the planner writes for a wiring: definitions in specs/, their laws in proofs/.
+// The planner: addresses and hops of a rack, and its plan file, from the bytes of a wiring file.
+ghost use mathlib.Core.Path.{_≡_};
+ghost use mathlib.Core.Bool.{true};
+ghost use lib.ListN.{length, replicate};
+ghost use Rattle.rack.specs.Hops.{connected};
+ghost use Rattle.rack.specs.WiringFile.{file-wiring};
+ghost use Rattle.planner.specs.Formed.{Formed};
+ghost use Rattle.planner.specs.Tables.{Hops-in};
+ghost use Rattle.planner.specs.Stages.{Addressed, File-planned, Rack-planned};
+ghost use Rattle.planner.specs.Planning.{Addresses-found, Asked, Plan-says, Write-says};
+use columns::open_columns;
+use fill::clear_bytes;
+use fill::clear_words;
+use hops::all_hops;
+use hops::parity_fault;
+use links::links_fault;
+use links::sizes_fault;
+use order::link_order;
+use pairs::pairs_measure;
+use rack::bytes::number_at;
+use rack::places::ones_table;
+use reach::reach_fault;
+use write::put_plan;
+
+pub mod columns;
+pub mod fill;
+pub mod hops;
+pub mod links;
+pub mod order;
+pub mod pairs;
+pub mod reach;
+pub mod write;
+
+// A refusal's number, 0 for none, the link or card that it carries, and with 0 a value.
+pub struct Answer {
+    pub number: u32,
+    pub at: u32,
+    pub value: u32,
+}
+
+// Addresses in words that are zero at entry: the number of columns, or `n` where the rack has none.
+fn address_cards(file: &[u8], n: usize, m: usize, hops: &[u8], words: &mut [u64]) -> usize
+    requires { ⌜ Formed (now file) n m × (connected (file-wiring (now file)) ≡ true) × Hops-in (file-wiring (now file)) (now hops) × (now words ≡ replicate 1024 0) ⌝ }
+    ensures { λ r. ⌜ Addressed (file-wiring (now (file .entry))) n (now (words .exit)) r ⌝ }
+{
+    let ones = ones_table();
+    let k = open_columns(&ones, file, n, m, hops, words);
+    if k == n {
+        return n;
+    }
+    if pairs_measure(&ones, words, hops, n) {
+        return k;
+    }
+    n
+}
+
+// 9, 10, 11 of a file that passed 2 to 8, or its plan in buffers that are zero at entry.
+fn plan_formed(file: &[u8], n: usize, m: usize, words: &mut [u64], hops: &mut [u8]) -> Answer
+    requires { ⌜ Formed (now file) n m × (now words ≡ replicate 1024 0) × (now hops ≡ replicate 65536 0) ⌝ }
+    ensures { λ r. ⌜ Rack-planned (file-wiring (now (file .entry))) r (now (words .exit)) (now (hops .exit)) ⌝ }
+{
+    let order = link_order(file, n, m);
+    let f = reach_fault(file, n, m, &order, hops);
+    if f.number != 0 {
+        return Answer {
+            number: f.number,
+            at: f.at,
+            value: 0,
+        };
+    }
+    all_hops(file, n, m, &order, hops);
+    let g = parity_fault(file, n, m, hops);
+    if g.number != 0 {
+        return Answer {
+            number: g.number,
+            at: g.at,
+            value: 0,
+        };
+    }
+    let k = address_cards(file, n, m, hops, words);
+    if k == n {
+        return Answer {
+            number: 11,
+            at: 0,
+            value: 0,
+        };
+    }
+    Answer {
+        number: 0,
+        at: 0,
+        value: k as u32,
+    }
+}
+
+// 2 to 11 of a file, or its plan in buffers that are zero at entry.
+pub fn plan_file(file: &[u8], words: &mut [u64], hops: &mut [u8]) -> Answer
+    requires { ⌜ (now words ≡ replicate 1024 0) × (now hops ≡ replicate 65536 0) ⌝ }
+    ensures { λ r. ⌜ File-planned (now (file .entry)) r (now (words .exit)) (now (hops .exit)) ⌝ }
+{
+    let x = sizes_fault(file);
+    if x != 0 {
+        return Answer {
+            number: x,
+            at: 0,
+            value: 0,
+        };
+    }
+    let n = number_at(file, 0);
+    let m = number_at(file, 2);
+    let f = links_fault(file, n, m, hops);
+    if f.number != 0 {
+        return Answer {
+            number: f.number,
+            at: f.at,
+            value: 0,
+        };
+    }
+    clear_bytes(hops);
+    plan_formed(file, n, m, words, hops)
+}
+
+// Plans a rack: every card's address and the hops between all cards, or a refusal.
+pub fn plan_rack(file: &[u8], words: &mut [u64], hops: &mut [u8]) -> Answer
+    ensures says { λ r. ⌜ Plan-says (now (file .entry)) r (now (words .entry)) (now (words .exit)) (now (hops .entry)) (now (hops .exit)) ⌝ }
+    ensures found { λ r. ⌜ (Asked (now (file .entry)) (now (words .entry)) (now (hops .entry)) → Addresses-found (file-wiring (now (file .entry))) r (now (words .exit)) (now (hops .exit))) ⌝ }
+{
+    if words.len() != 1024 {
+        return Answer {
+            number: 1,
+            at: 0,
+            value: 0,
+        };
+    }
+    if hops.len() != 65536 {
+        return Answer {
+            number: 1,
+            at: 0,
+            value: 0,
+        };
+    }
+    clear_words(words);
+    clear_bytes(hops);
+    let answer = plan_file(file, words, hops);
+    if answer.number != 0 {
+        clear_words(words);
+        clear_bytes(hops);
+    }
+    answer
+}
+
+// Writes the plan file of a rack, or a refusal; the value is the used length.
+pub fn write_plan(file: &[u8], output: &mut [u8]) -> Answer
+    ensures { λ r. ⌜ Write-says (now (file .entry)) r (now (output .entry)) (now (output .exit)) ⌝ }
+{
+    if output.len() != 16390 {
+        return Answer {
+            number: 1,
+            at: 0,
+            value: 0,
+        };
+    }
+    let mut words = [0u64; 1024];
+    let mut hops = [0u8; 65536];
+    let answer = plan_file(file, &mut words, &mut hops);
+    clear_bytes(output);
+    if answer.number != 0 {
+        return answer;
+    }
+    let n = number_at(file, 0);
+    let m = number_at(file, 2);
+    let length = put_plan(file, n, m, answer.value as usize, &words, output);
+    Answer {
+        number: 0,
+        at: 0,
+        value: length as u32,
+    }
+}

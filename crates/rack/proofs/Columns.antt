@@ -57,6 +57,14 @@ module _ (c : List Bool) (cs : List (List Bool)) where
       (λ (e : any (same-column c) cs ≡ true). rw e d)
       (λ (e : any (same-column c) cs ≡ false). rw e (distinct-snoc c cs d (λ m. true-not-false (any (same-column c) cs) (in-has c cs m) e)))
 
+-- the differing places of two cards' bits in columns are the columns in which they differ
+pub hamming-count : (cs : List (List Bool)) (a b : ℕ)
+    → hamming (length cs) (λ j. getD (getD cs j []) a false) (λ j. getD (getD cs j []) b false) ≡ count (λ c. differ (getD c a false) (getD c b false)) cs
+unfolding hamming
+hamming-count cs a b =
+    let p : List Bool → Bool = λ c. differ (getD c a false) (getD c b false) in
+    sym (count-tabulate p (length cs) (λ j. getD cs j [])) ∙ ap (count p) (tabulate-getD cs [])
+
 -- THE COLUMNS of links
 module _ (w : Wiring) where
   adds-old : (ls : List Link) (cs : List (List Bool)) (x : List Bool) → In x cs → In x (add-columns w ls cs)
@@ -116,7 +124,5 @@ module _ (w : Wiring) where
 
   -- the differing places of two addresses are the columns in which the two cards differ
   pub address-count : (a b : ℕ) → hamming (column-count w) (address w a) (address w b) ≡ count (λ c. differ (getD c a false) (getD c b false)) (columns w)
-  unfolding hamming address column-count
-  address-count a b =
-      let p : List Bool → Bool = λ c. differ (getD c a false) (getD c b false) in
-      sym (count-tabulate p (length (columns w)) (λ j. getD (columns w) j [])) ∙ ap (count p) (tabulate-getD (columns w) [])
+  unfolding address column-count
+  address-count a b = hamming-count (columns w) a b

@@ -2,6 +2,7 @@ pub mod Logic
 pub mod Lists
 pub mod Tables
 pub mod Bits
+pub mod Hamming
 pub mod Paths
 pub mod Hops
 pub mod Columns

@@ -45,6 +45,10 @@ in-any p [] v m h = absurd m
 in-any p (x ∷ xs) v (inl e) h = or-left (p x) (any p xs) (rw e h)
 in-any p (x ∷ xs) v (inr m) h = or-right (p x) (any p xs) (in-any p xs v m h)
 
+pub any-ext : {A : Type 0} (p q : A → Bool) (xs : List A) → ((v : A) → In v xs → p v ≡ q v) → any p xs ≡ any q xs
+any-ext p q [] h = refl
+any-ext p q (x ∷ xs) h = cc (h x (inl refl), any-ext p q xs (λ v m. h v (inr m)))
+
 -- membership in what lists are made of
 pub in-left : {A : Type 0} (v : A) (xs ys : List A) → In v xs → In v (xs ++ ys)
 in-left v [] ys m = absurd m
@@ -243,3 +247,8 @@ same-eq eq sound (x ∷ xs) (y ∷ ys) h =
 pub same-self : {A : Type 0} (eq : A → A → Bool) → ((x : A) → eq x x ≡ true) → (xs : List A) → same eq xs xs ≡ true
 same-self eq self [] = refl
 same-self eq self (x ∷ xs) = and-both (eq x x) (same eq xs xs) (self x) (same-self eq self xs)
+
+-- a count with one element more at the end
+pub count-snoc : {A : Type 0} (p : A → Bool) (xs : List A) (x : A) → count p (xs ++ (x ∷ [])) ≡ count p xs + one (p x)
+count-snoc p [] x = omega arith
+count-snoc p (y ∷ ys) x = omega (arith, count-snoc p ys x)

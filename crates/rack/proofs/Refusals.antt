@@ -2,7 +2,7 @@
 use mathlib.Core.Path.{_≡_, refl, sym, _∙_, subst}
 use mathlib.Core.Bool.{Bool, true, false, _||_, not, cond}
 use mathlib.Core.Logic.{_⊎_, inl, inr, _≢_}
-use Prim.Native.Nat.{ℕ, _<_}
+use Prim.Native.Nat.{ℕ, _≤_, _<_}
 use native.Mathlib.Omega.{arith}
 use lib.Dec.{leb, eqb}
 use borrow.Author.Tests.{eqb-true, eqb-false, eq-eqb, ne-eqb, lt-ltb, le-ltb, leb-true, leb-false, not-true, not-false}
@@ -92,19 +92,11 @@ links-clear w h l m =
     let r = getD-in (w .links) (link 0 0) l m in
     subst (Joins-cards w) (r .2) (link-fault-clear w (r .0) (lowest-fault-clear (link-count w) (link-fault w) h (r .0) (r .1)))
 
-pub well-formed-rack : (w : Wiring) → well-formed w ≡ true → connected w ≡ true → Rack w
-unfolding well-formed
-well-formed-rack w h c =
-    record {
-      inside = λ a b e. inside a b (linked-link w a b e);
-      apart = λ a b e. apart a b (linked-link w a b e);
-      some = leb-true 1 (w .cards) (and-left (leb 1 (w .cards)) (eqb (links-refusal w .number) 0) h);
-      whole = c;
-    }
+-- so a connected wiring is a rack
+pub joined-rack : (w : Wiring) → 1 ≤ w .cards → ((l : Link) → In l (w .links) → Joins-cards w l) → connected w ≡ true → Rack w
+joined-rack w some joins-cards c =
+    record { inside = λ a b e. inside a b (linked-link w a b e); apart = λ a b e. apart a b (linked-link w a b e); some = some; whole = c }
   where
-    joins-cards : (l : Link) → In l (w .links) → Joins-cards w l
-    joins-cards = links-clear w (eqb-true (links-refusal w .number) 0 (and-right (leb 1 (w .cards)) (eqb (links-refusal w .number) 0) h))
-
     inside : (a b : ℕ) → (l : Link) × In l (w .links) × Ends a b l → (a < w .cards) × (b < w .cards)
     inside a b (l, i, inl e) = let f = joins-cards l i in (rw (e .0) at (f .0), rw (e .1) at (f .1))
     inside a b (l, i, inr e) = let f = joins-cards l i in (rw (e .1) at (f .1), rw (e .0) at (f .0))
@@ -112,6 +104,12 @@ well-formed-rack w h c =
     apart : (a b : ℕ) → (l : Link) × In l (w .links) × Ends a b l → a ≢ b
     apart a b (l, i, inl e) g = joins-cards l i .2 (e .0 ∙ g ∙ sym (e .1))
     apart a b (l, i, inr e) g = joins-cards l i .2 (e .0 ∙ sym g ∙ sym (e .1))
+
+pub well-formed-rack : (w : Wiring) → well-formed w ≡ true → connected w ≡ true → Rack w
+unfolding well-formed
+well-formed-rack w h c =
+    joined-rack w (leb-true 1 (w .cards) (and-left (leb 1 (w .cards)) (eqb (links-refusal w .number) 0) h))
+    (links-clear w (eqb-true (links-refusal w .number) 0 (and-right (leb 1 (w .cards)) (eqb (links-refusal w .number) 0) h))) c
 
 -- THE TEST OF ALL PAIRS
 module _ (w : Wiring) (k : ℕ) (r : ℕ → ℕ → Bool) where

@@ -2,7 +2,7 @@
 use mathlib.Core.Path.{_≡_, refl, sym, ap, ap₂, _∙_}
 use mathlib.Core.Bool.{Bool, true, false}
 use mathlib.Core.Logic.{inl, inr}
-use mathlib.Core.List.{List, [], _∷_, _++_, map}
+use mathlib.Core.List.{List, [], _∷_, _++_, map, append-assoc}
 use Prim.Native.Nat.{ℕ, zero, suc, _+_, _*_, _≤_, _<_}
 use native.Mathlib.Omega.{arith}
 use lib.ListN.{length, getD, length-append, List·getD-append, List·getD-eq-default}
@@ -95,6 +95,16 @@ getD-blocks (suc n) b f h (suc i) j d hi hj =
 pub blocks-ext : {A : Type 0} (n : ℕ) (f g : ℕ → List A) → ((i : ℕ) → i < n → f i ≡ g i) → blocks n f ≡ blocks n g
 blocks-ext zero f g h = refl
 blocks-ext (suc n) f g h = ap₂ _++_ (h 0 (omega arith)) (blocks-ext n (λ i. f (suc i)) (λ i. g (suc i)) (λ i l. h (suc i) (omega arith)))
+
+pub blocks-add : {A : Type 0} (m n : ℕ) (f : ℕ → List A) → blocks (m + n) f ≡ blocks m f ++ blocks n (λ i. f (m + i))
+blocks-add zero n f =
+    let e : 0 + n ≡ n = omega arith in
+    rw e (blocks-ext n f (λ i. f (0 + i)) (λ i h. ap f (omega arith)))
+blocks-add (suc m) n f =
+    let e : suc m + n ≡ suc (m + n) = omega arith in
+    rw e
+    (ap (λ (t : List _). f 0 ++ t) (blocks-add m n (λ i. f (suc i)) ∙ ap (λ (t : List _). blocks m (λ i. f (suc i)) ++ t) (blocks-ext n (λ i. f (suc (m + i))) (λ i. f (suc m + i)) (λ i h. ap f (omega arith))))
+    ∙ sym (append-assoc (f 0) (blocks m (λ i. f (suc i))) (blocks n (λ i. f (suc m + i)))))
 
 -- THE LOWEST NUMBER that passes a test
 pub lowest-le : (n : ℕ) (p : ℕ → Bool) → lowest n p ≤ n

@@ -1,3 +1,4 @@
+-- The link's place in the list is its place in the bytes. Assumes nothing.
 use mathlib.Core.Path.{ap, sym, _∙_}
 use Rattle.rack.specs.Wiring.{Link}
 use Rattle.rack.proofs.WiringFile.{wiring-at-link}

@@ -1,3 +1,4 @@
+-- The link's place in the list is its place in the bytes, behind all first ends. Assumes nothing.
 use Rattle.rack.specs.WiringFile.{number-at}
 use Prim.Native.Nat.{ℕ, _+_, _*_}
 use mathlib.Core.Path.{ap, sym, _∙_}

@@ -1,3 +1,4 @@
+-- The places in which two bytes differ are the ones of their xor. Assumes nothing.
 use mathlib.Core.Path.{_∙_}
 use native.Mathlib.Omega.{arith}
 use lib.Bits.{bitXor, xor-lt}

@@ -1,3 +1,4 @@
+-- Every entry is tested once, by computation. Assumes nothing.
 use Rattle.rack.specs.Ones.{ones-in}
 use mathlib.Core.Path.{refl}
 use Rattle.rack.specs.Bits.{number-bit}

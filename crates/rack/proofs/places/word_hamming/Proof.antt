@@ -1,3 +1,4 @@
+-- The places in which two words differ are the ones of their xor. Assumes nothing.
 use mathlib.Core.Path.{_∙_}
 use Rattle.rack.proofs.Bits.{ones-xor}
 use borrow.Author.Needs.{needs}

@@ -1,3 +1,4 @@
+-- After i bytes the sum is the ones of the lowest 8 i bits, and the rest is what lies above them. Assumes nothing.
 use mathlib.Core.Path.{sym}
 use mathlib.Core.Path.{_≡_, ap, _∙_}
 use Prim.Native.Nat.{ℕ, _+_, _*_, _-_, _/_, _%_, _^_, _≤_}

@@ -1,0 +1,126 @@
+-- What planning says: its answer and its buffers, from those of its last stage. Assumes nothing.
+use mathlib.Core.Path.{_≡_, refl, sym, ap, _∙_}
+use mathlib.Core.Bool.{Bool, true, false, _&&_, _||_, not, cond}
+use mathlib.Core.Logic.{⊎-elim, _≢_}
+use mathlib.Core.List.{List, _++_}
+use Prim.Native.Nat.{ℕ, _+_, _*_, _-_, _≤_}
+use native.Mathlib.Omega.{arith}
+use lib.Dec.{ltb, leb, eqb}
+use lib.ListN.{length, replicate, take}
+use borrow.Author.Tests.{eq-eqb, ne-eqb}
+use Rattle.rack.specs.Lists.{count}
+use Rattle.rack.specs.Wiring.{Wiring, link-count, link-at, joins}
+use Rattle.rack.specs.Hops.{hops, connected}
+use Rattle.rack.specs.Columns.{column-count}
+use Rattle.rack.specs.Refusals.{Refusal, most-parallel, link-fault, links-refusal, rack-refusal}
+use Rattle.rack.specs.WiringFile.{most-cards, most-links, number-at, file-wiring, sizes-fault, file-refusal}
+use Rattle.rack.proofs.Logic.{by-bool, by-eq}
+use Rattle.rack.proofs.Refusals.{lowest-fault-number}
+use Rattle.rack.proofs.Acceptance.{unconnected-refusal, connected-number}
+use Rattle.rack.proofs.Accepted.{file-clear}
+use Rattle.rack.proofs.WiringFile.{wiring-at-cards}
+use Rattle.planner.specs.Stages.{File-planned}
+use Rattle.planner.specs.Planning.{lent-words, lent-hops, all-words, all-hops, left-in, Answer-is, planning-refusal, Plan-says}
+use Rattle.planner.specs.declared.Answer.{Answer}
+use Rattle.planner.proofs.Contents.{words-list, hops-list}
+use Rattle.planner.proofs.Answers.{refusal-of-sizes, refusal-of-links, refusal-of-rack}
+
+-- NO FILE is refused with 1
+cond-not-one : (t : Bool) (x y : ℕ) → x ≢ 1 → y ≢ 1 → cond t x y ≢ 1
+cond-not-one true x y hx hy = hx
+cond-not-one false x y hx hy = hy
+
+sizes-not-one : (bs : List ℕ) → sizes-fault bs ≢ 1
+unfolding sizes-fault
+sizes-not-one bs =
+    cond-not-one (ltb (length bs) 4) 2 _ (λ e. omega arith)
+    (cond-not-one (not (leb 1 (number-at bs 0) && leb (number-at bs 0) most-cards)) 3 _ (λ e. omega arith)
+    (cond-not-one (ltb most-links (number-at bs 2)) 4 _ (λ e. omega arith)
+    (cond-not-one (not (eqb (length bs) (4 + 4 * number-at bs 2))) 5 0 (λ e. omega arith) (λ e. omega arith))))
+
+link-not-one : (w : Wiring) (i : ℕ) → link-fault w i ≢ 1
+unfolding link-fault
+link-not-one w i =
+    cond-not-one (leb (w .cards) (link-at w i .first) || leb (w .cards) (link-at w i .second)) 6 _ (λ e. omega arith)
+    (cond-not-one (eqb (link-at w i .first) (link-at w i .second)) 7 _ (λ e. omega arith)
+    (cond-not-one (leb most-parallel (count (joins (link-at w i .first) (link-at w i .second)) (take i (w .links)))) 8 0 (λ e. omega arith) (λ e. omega arith)))
+
+links-not-one : (w : Wiring) → links-refusal w .number ≢ 1
+unfolding links-refusal
+links-not-one w e =
+    ⊎-elim (λ z. omega arith) (λ r. link-not-one w (r .0) (sym (r .2) ∙ e)) (lowest-fault-number (link-count w) (link-fault w))
+
+rack-not-one : (w : Wiring) → rack-refusal w .number ≢ 1
+rack-not-one w e =
+    by-bool (connected w)
+    (λ c. ⊎-elim (λ z. omega arith) (λ d. ⊎-elim (λ z. omega arith) (λ z. omega arith) d) (connected-number w c))
+    (λ c. let z : rack-refusal w .number ≡ 9 = rw (unconnected-refusal w c) refl in omega arith)
+
+pub file-not-one : (bs : List ℕ) → file-refusal bs .number ≢ 1
+file-not-one bs e =
+    by-eq (sizes-fault bs) 0
+    (λ z. by-eq (links-refusal (file-wiring bs) .number) 0
+    (λ l. rack-not-one (file-wiring bs) (sym (ap (λ (f : Refusal). f .number) (refusal-of-rack bs z l)) ∙ e))
+    (λ l. links-not-one (file-wiring bs) (sym (ap (λ (f : Refusal). f .number) (refusal-of-links bs z l)) ∙ e)))
+    (λ z. sizes-not-one bs (sym (ap (λ (f : Refusal). f .number) (refusal-of-sizes bs z)) ∙ e))
+
+-- BUFFERS
+pub left-untouched : (new old : List ℕ) → left-in 1 new old ≡ old
+unfolding left-in
+left-untouched new old = refl
+
+pub left-filled : (n : ℕ) (new old now : List ℕ) → n ≡ 0 → length now ≡ length old → now ≡ new ++ replicate (length now - length new) 0 → now ≡ left-in n new old
+unfolding left-in
+left-filled n new old now z l e = rw (z, ← l) e
+
+pub left-zero : (n : ℕ) (new old : List ℕ) → n ≢ 0 → n ≢ 1 → left-in n new old ≡ replicate (length old) 0
+unfolding left-in
+left-zero n new old z o = rw (ne-eqb n 1 o, ne-eqb n 0 z) refl
+
+-- an answer's value from a stage's
+pub answer-value : (n v k : ℕ) → (n ≡ 0 → v ≡ k) → (n ≢ 0 → v ≡ 0) → v ≡ cond (eqb n 0) k 0
+answer-value n v k h z = by-eq n 0 (λ e. h e ∙ sym (rw (eq-eqb n 0 e) refl)) (λ e. z e ∙ sym (rw (ne-eqb n 0 e) refl))
+
+pub accepted-few : (bs : List ℕ) → file-refusal bs .number ≡ 0 → file-wiring bs .cards ≤ 256
+accepted-few bs h = omega (arith, file-clear bs h .0 .cards, wiring-at-cards 4 bs)
+
+-- PLANNING in buffers of another length
+pub plan-says-one : (bs : List ℕ) (r : Answer) (ws h : List ℕ) → (eqb (length ws) lent-words && eqb (length h) lent-hops) ≡ false → r .number ≡ 1 → r .at ≡ 0 → r .value ≡ 0
+    → Plan-says bs r ws ws h h
+unfolding planning-refusal
+plan-says-one bs r ws h t n a v =
+    record {
+      answer = record { number = rw t n; at = rw t a; value = rw t v };
+      words-left = rw n (sym (left-untouched (all-words (file-wiring bs)) ws));
+      hops-left = rw n (sym (left-untouched (all-hops (file-wiring bs)) h));
+    }
+
+-- PLANNING in buffers of their lengths
+module _ (bs : List ℕ) (r : Answer) (ws₀ ws₁ h₀ h₁ : List ℕ) (lw : length ws₀ ≡ lent-words) (lh : length h₀ ≡ lent-hops) (p : File-planned bs r ws₁ h₁) where
+  plan-answer : Answer-is (planning-refusal bs (length ws₀) (length h₀)) (column-count (file-wiring bs)) r
+  unfolding planning-refusal
+  plan-answer =
+      rw (eq-eqb (length ws₀) lent-words lw, eq-eqb (length h₀) lent-hops lh)
+      (record {
+        number = p .number;
+        at = p .at;
+        value = answer-value (r .number) (r .value) (column-count (file-wiring bs)) (p .value) (p .no-value) ∙ ap (λ (n : ℕ). cond (eqb n 0) (column-count (file-wiring bs)) 0) (p .number);
+      })
+
+  pub plan-says-found : r .number ≡ 0 → Plan-says bs r ws₀ ws₁ h₀ h₁
+  plan-says-found z =
+      let few = accepted-few bs (sym (p .number) ∙ z) in
+      record {
+        answer = plan-answer;
+        words-left = left-filled (r .number) (all-words (file-wiring bs)) ws₀ ws₁ z (p .long-words ∙ sym lw) (words-list (file-wiring bs) ws₁ few (p .words z));
+        hops-left = left-filled (r .number) (all-hops (file-wiring bs)) h₀ h₁ z (p .long-hops ∙ sym lh) (hops-list (file-wiring bs) h₁ few (p .hops z));
+      }
+
+  pub plan-says-refused : (ws h : List ℕ) → r .number ≢ 0 → ws ≡ replicate (length ws₁) 0 → h ≡ replicate (length h₁) 0 → Plan-says bs r ws₀ ws h₀ h
+  plan-says-refused ws h n ew eh =
+      let o : r .number ≢ 1 = λ e. file-not-one bs (sym (p .number) ∙ e) in
+      record {
+        answer = plan-answer;
+        words-left = ew ∙ ap (λ (k : ℕ). replicate k 0) (p .long-words ∙ sym lw) ∙ sym (left-zero (r .number) (all-words (file-wiring bs)) ws₀ n o);
+        hops-left = eh ∙ ap (λ (k : ℕ). replicate k 0) (p .long-hops ∙ sym lh) ∙ sym (left-zero (r .number) (all-hops (file-wiring bs)) h₀ n o);
+      }

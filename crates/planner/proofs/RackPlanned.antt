@@ -1,0 +1,70 @@
+-- The stages of planning, joined: 2 to 11, or the plan. Assumes nothing.
+use mathlib.Core.Path.{_≡_, refl, sym, ap, ap₂, _∙_, subst}
+use mathlib.Core.Bool.{true}
+use mathlib.Core.Logic.{_≢_}
+use mathlib.Core.List.{List}
+use Prim.Native.Nat.{ℕ, _<_}
+use native.Mathlib.Omega.{arith}
+use lib.ListN.{length}
+use Rattle.rack.specs.Wiring.{Wiring}
+use Rattle.rack.specs.Hops.{connected}
+use Rattle.rack.specs.Columns.{columns}
+use Rattle.rack.specs.Refusals.{Refusal, refusal, links-refusal, reach-refusal, parity-refusal, rack-refusal}
+use Rattle.rack.specs.WiringFile.{number-at, file-wiring, sizes-fault, file-refusal}
+use Rattle.rack.proofs.Acceptance.{reach-clear}
+use Rattle.planner.specs.Formed.{Fault-is, Formed}
+use Rattle.planner.specs.Tables.{Hops-in}
+use Rattle.planner.specs.Opening.{Words-of}
+use Rattle.planner.specs.Stages.{Addressed, Rack-planned, File-planned}
+use Rattle.planner.specs.Planning.{lent-words, lent-hops}
+use Rattle.planner.specs.declared.links.Fault.{Fault}
+use Rattle.planner.specs.declared.Answer.{Answer}
+use Rattle.planner.proofs.Forms.{sizes-are, formed}
+use Rattle.planner.proofs.Answers.{refusal-of-sizes, refusal-of-links, refusal-of-rack, refusal-of-reach, refusal-of-parity, refusal-of-none, refusal-of-embedding, planned-refused, planned-found}
+
+-- A RACK: 9, 10, 11, or its plan
+pub fault-refusal : (g : Fault) (f : Refusal) → Fault-is g f → f ≡ refusal (g .number) (g .at)
+fault-refusal g f i = ap₂ refusal (sym (i .number)) (sym (i .at))
+
+abbrev answer : (number at value : ℕ) → Answer
+answer n i v = record { number = n; at = i; value = v }
+
+module _ (w : Wiring) (g : Fault) (ws h : List ℕ) where
+  pub reached : Fault-is g (reach-refusal w) → g .number ≡ 0 → connected w ≡ true
+  reached i z = reach-clear w (sym (i .number) ∙ z)
+
+  pub unreached-planned : Fault-is g (reach-refusal w) → g .number ≢ 0 → length ws ≡ lent-words → length h ≡ lent-hops → Rack-planned w (answer (g .number) (g .at) 0) ws h
+  unreached-planned i n lw lh =
+      planned-refused (rack-refusal w) w (answer (g .number) (g .at) 0) ws h (refusal-of-reach w (λ z. n (i .number ∙ z)) ∙ fault-refusal g (reach-refusal w) i) n refl lw lh
+
+  module _ (c : connected w ≡ true) (i : Fault-is g (parity-refusal w)) where
+    pub odd-planned : g .number ≢ 0 → length ws ≡ lent-words → length h ≡ lent-hops → Rack-planned w (answer (g .number) (g .at) 0) ws h
+    odd-planned n lw lh =
+        planned-refused (rack-refusal w) w (answer (g .number) (g .at) 0) ws h (refusal-of-parity w c (λ z. n (i .number ∙ z)) ∙ fault-refusal g (parity-refusal w) i) n refl lw lh
+
+    pub none-planned : (n k : ℕ) → g .number ≡ 0 → k ≡ n → Addressed w n ws k → length ws ≡ lent-words → length h ≡ lent-hops → Rack-planned w (answer 11 0 0) ws h
+    none-planned n k z e a lw lh =
+        planned-refused (rack-refusal w) w (answer 11 0 0) ws h (refusal-of-none w c (sym (i .number) ∙ z) (a .none e)) (λ z. omega arith) refl lw lh
+
+    pub found-planned : (n k : ℕ) → n ≡ w .cards → g .number ≡ 0 → k < n → Addressed w n ws k → Hops-in w h → Rack-planned w (answer 0 0 k) ws h
+    found-planned n k cards z l a t =
+        planned-found (rack-refusal w) w (answer 0 0 k) ws h (refusal-of-embedding w c (sym (i .number) ∙ z) (a .embedding l)) refl refl (a .count l)
+        (subst (λ (v : ℕ). Words-of (columns w) v ws) cards (a .words l)) t
+
+-- A FILE: 2 to 8, or as its rack
+module _ (bs ws h : List ℕ) where
+  pub sizes-planned : (x : ℕ) → x ≡ sizes-fault bs → x ≢ 0 → length ws ≡ lent-words → length h ≡ lent-hops → File-planned bs (answer x 0 0) ws h
+  sizes-planned x e n lw lh =
+      planned-refused (file-refusal bs) (file-wiring bs) (answer x 0 0) ws h (refusal-of-sizes bs (λ z. n (e ∙ z)) ∙ ap (λ (y : ℕ). refusal y 0) (sym e)) n refl lw lh
+
+  module _ (z : sizes-fault bs ≡ 0) (g : Fault) (i : Fault-is g (links-refusal (file-wiring bs))) where
+    pub links-planned : g .number ≢ 0 → length ws ≡ lent-words → length h ≡ lent-hops → File-planned bs (answer (g .number) (g .at) 0) ws h
+    links-planned n lw lh =
+        planned-refused (file-refusal bs) (file-wiring bs) (answer (g .number) (g .at) 0) ws h
+        (refusal-of-links bs z (λ y. n (i .number ∙ y)) ∙ fault-refusal g (links-refusal (file-wiring bs)) i) n refl lw lh
+
+    pub links-formed : (n m : ℕ) → n ≡ number-at bs 0 → m ≡ number-at bs 2 → g .number ≡ 0 → Formed bs n m
+    links-formed n m en em y = formed bs n m (sizes-are bs n m z en em) (sym (i .number) ∙ y)
+
+    pub rack-file-planned : (r : Answer) → g .number ≡ 0 → Rack-planned (file-wiring bs) r ws h → File-planned bs r ws h
+    rack-file-planned r y p = rw (refusal-of-rack bs z (sym (i .number) ∙ y)) p

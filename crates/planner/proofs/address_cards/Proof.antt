@@ -1,0 +1,59 @@
+-- The test of all pairs over the opened columns decides whether there is an embedding. Assumes nothing.
+use mathlib.Core.Path.{sym, _∙_, ap}
+use Prim.Native.Nat.{ℕ}
+use native.Mathlib.Omega.{arith}
+use lib.ListN.{length, length-replicate}
+use Rattle.planner.proofs.Forms.{formed-cards, formed-count, formed-rack}
+use Rattle.planner.proofs.MeasuredPairs.{measured-addressed, unmeasured-addressed, full-addressed}
+use borrow.Author.Needs.{needs}
+use Rattle.planner.proofs.address_cards.Statement.{statement}
+use Rattle.planner.proofs.address_cards.Tie as tie
+
+ones-table-requires : tie.Need-ones-table-requires
+ones-table-requires c κs = search needs
+
+open-columns-requires : tie.Need-open-columns-requires
+open-columns-requires c κs = search needs
+
+same-length : tie.Need-same-length
+same-length c = search needs
+
+returns : tie.Need-returns
+returns c =
+    let s = c .before .before .before .before .before .before .before .before .before .before in
+    full-addressed _ (formed-rack _ _ _ (s .pre .0) (s .pre .1)) _ _ _ _ _ (sym (formed-cards _ _ _ (s .pre .0))) (sym (formed-count _ _ _ (s .pre .0))) (s .pre .0 .sizes .few) (s .pre .2) (c .before .before .before .open-columns .ensures) (c .if1 .taken)
+
+pairs-measure-requires : tie.Need-pairs-measure-requires
+pairs-measure-requires c κs =
+    let s = c .before .before .before .before .before .before .before .before .before .before .before .before in
+    (c .before .before .before .before .before .before .before .before .ones-table .ensures, c .before .before .before .before .before .open-columns .kept .1 .1 .1 .1 .1 .0 ∙ ap length (s .pre .3) ∙ length-replicate {A = ℕ} 1024 0, s .pre .2 .long, s .pre .0 .sizes .few)
+
+same-length-2 : tie.Need-same-length-2
+same-length-2 c = search needs
+
+returns-2 : tie.Need-returns-2
+returns-2 c =
+    let s = c .before .before .before .before .before .before .before .before .before .before .before .before .before .before in
+    measured-addressed _ (formed-rack _ _ _ (s .pre .0) (s .pre .1)) _ _ _ _ _ (sym (formed-cards _ _ _ (s .pre .0))) (sym (formed-count _ _ _ (s .pre .0))) (s .pre .0 .sizes .few) (s .pre .2) (c .before .before .before .before .before .before .before .open-columns .ensures) (omega (arith, c .before .before .before .before .before .before .before .open-columns .ensures .most, c .before .before .before .before .if1 .left)) (c .before .pairs-measure .ensures .0 (c .if2 .taken))
+
+same-length-3 : tie.Need-same-length-3
+same-length-3 c = search needs
+
+returns-3 : tie.Need-returns-3
+returns-3 c =
+    let s = c .before .before .before .before .before .before .before .before .before .before .before .before .before .before in
+    unmeasured-addressed _ (formed-rack _ _ _ (s .pre .0) (s .pre .1)) _ _ _ _ _ (sym (formed-cards _ _ _ (s .pre .0))) (sym (formed-count _ _ _ (s .pre .0))) (s .pre .0 .sizes .few) (s .pre .2) (c .before .before .before .before .before .before .before .open-columns .ensures) (omega (arith, c .before .before .before .before .before .before .before .open-columns .ensures .most, c .before .before .before .before .if1 .left)) (c .before .pairs-measure .ensures .1 (c .if2 .left))
+
+pub address-cards-spec : {M : Type 1} → statement M
+address-cards-spec =
+    tie.close
+    (tie.spec
+    ones-table-requires
+    open-columns-requires
+    same-length
+    returns
+    pairs-measure-requires
+    same-length-2
+    returns-2
+    same-length-3
+    returns-3)

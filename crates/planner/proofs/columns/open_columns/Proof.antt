@@ -1,0 +1,61 @@
+-- Invariant: the words hold the columns that the first `i` links open, `k` of them, fewer than cards. Assumes nothing.
+use mathlib.Core.Path.{_≡_, sym, _∙_}
+use Prim.Native.Nat.{_-_, _≤_, _<_}
+use native.Mathlib.Omega.{arith}
+use Rattle.rack.specs.WiringFile.{file-wiring}
+use Rattle.planner.specs.Opening.{Opened}
+use Rattle.planner.proofs.AddressWords.{zero-words}
+use Rattle.planner.proofs.OpenedLinks.{none-opened, full-opened}
+use Rattle.planner.proofs.columns.open_columns.Statement.{statement}
+use Rattle.planner.proofs.columns.open_columns.Tie as tie
+
+abbrev Inv-loop : tie.InvT-loop
+Inv-loop ones file n m hops words₀ k₀ i₀ words k i = (i ≤ m) × (k < n) × Opened (file-wiring file) n i words k
+
+abbrev μ-loop : tie.MeasureT-loop
+μ-loop ones file n m hops words₀ k₀ i₀ words k i = m - i
+
+loop-holds : tie.Need-loop-holds Inv-loop μ-loop
+loop-holds c = let s = c .before .before .before in (omega arith, s .pre .1 .sizes .some, none-opened _ _ _ (s .pre .1 .sizes .some) (s .pre .3))
+
+open-link-requires : tie.Need-open-link-requires Inv-loop μ-loop
+open-link-requires c κs = let s = c .before .before .before .before .before .before in (s .pre .0, s .pre .1, omega arith, s .pre .2, c .before .before .loop .inv .1, c .before .before .loop .inv .2)
+
+same-length : tie.Need-same-length Inv-loop μ-loop
+same-length c =
+    let u = c .before .before .before .before .before .before in
+    c .before .before .before .open-link .kept .1 .1 .1 .1 .1 .1 .1 .0 ∙ u .loop .inv .2 .words (u .loop .inv .1) .long ∙ sym (zero-words 0 _ (u .before .before .before .before .pre .3) .long)
+
+returns : tie.Need-returns Inv-loop μ-loop
+returns c = full-opened _ _ _ _ _ _ (omega arith) (c .if1 .taken) (c .before .before .before .open-link .ensures)
+
+add-i : tie.Need-add-i Inv-loop μ-loop
+add-i c = omega arith
+
+loop-less : tie.Need-loop-less Inv-loop μ-loop
+loop-less c = omega arith
+
+loop-again : tie.Need-loop-again Inv-loop μ-loop
+loop-again c = (omega arith, omega (arith, c .before .before .before .open-link .ensures .most, c .if1 .left), c .before .before .before .open-link .ensures)
+
+same-length-2 : tie.Need-same-length-2 Inv-loop μ-loop
+same-length-2 c = c .before .loop .inv .2 .words (c .before .loop .inv .1) .long ∙ sym (zero-words 0 _ (c .before .before .before .before .before .pre .3) .long)
+
+returns-2 : tie.Need-returns-2 Inv-loop μ-loop
+returns-2 c = let e : c .before .loop .i ≡ c .before .before .before .before .before .args .m = omega arith in rw e at (c .before .loop .inv .2)
+
+pub open-columns-spec : {M : Type 1} → statement M
+open-columns-spec =
+    tie.close
+    (tie.spec
+    Inv-loop
+    μ-loop
+    loop-holds
+    open-link-requires
+    same-length
+    returns
+    add-i
+    loop-less
+    loop-again
+    same-length-2
+    returns-2)

@@ -1,0 +1,78 @@
+-- Sizes and links refuse first; a file that passes both is formed. Assumes nothing.
+use mathlib.Core.Path.{sym, _∙_, ap}
+use Prim.Native.Nat.{ℕ}
+use native.Mathlib.Omega.{arith}
+use lib.ListN.{replicate}
+use Rattle.rack.proofs.WiringFile.{sizes-clear}
+use Rattle.planner.proofs.Zeros.{zeros-long}
+use Rattle.planner.proofs.Forms.{sizes-are}
+use Rattle.planner.proofs.RackPlanned.{sizes-planned, links-planned, links-formed, rack-file-planned}
+use mathlib.Core.List.{[]}
+use borrow.Author.Needs.{needs}
+use Rattle.planner.proofs.plan_file.Statement.{statement}
+use Rattle.planner.proofs.plan_file.Tie as tie
+
+sizes-fault-requires : tie.Need-sizes-fault-requires
+sizes-fault-requires c κs = search needs
+
+returns : tie.Need-returns
+returns c =
+    let s = c .before .before .before .before .before in
+    sizes-planned _ _ _ (c .before .sizes-fault .result) (c .before .sizes-fault .ensures) (c .if1 .taken) (zeros-long 1024 _ (s .pre .0)) (zeros-long 65536 _ (s .pre .1))
+
+number-at-requires : tie.Need-number-at-requires
+number-at-requires c κs = omega (arith, sizes-clear _ (sym (c .before .sizes-fault .ensures) ∙ c .if1 .left) .head)
+
+number-at-requires-2 : tie.Need-number-at-requires-2
+number-at-requires-2 c κs = omega (arith, sizes-clear _ (sym (c .before .before .sizes-fault .ensures) ∙ c .before .if1 .left) .head)
+
+links-fault-requires : tie.Need-links-fault-requires
+links-fault-requires c κs =
+    let s = c .before .before .before .before .before .before .before .before in
+    (sizes-are _ _ _ (sym (c .before .before .before .before .sizes-fault .ensures) ∙ c .before .before .before .if1 .left) (c .before .before .number-at .ensures .0) (c .before .number-at2 .ensures .0), s .pre .1)
+
+same-length : tie.Need-same-length
+same-length c = search needs
+
+returns-2 : tie.Need-returns-2
+returns-2 c =
+    let s = c .before .before .before .before .before .before .before .before .before .before .before .before .before in
+    links-planned _ _ _ (sym (c .before .before .before .before .before .before .before .before .before .sizes-fault .ensures) ∙ c .before .before .before .before .before .before .before .before .if1 .left) (c .before .before .before .before .links-fault .result) (c .before .before .before .before .links-fault .ensures .0) (c .if2 .taken) (zeros-long 1024 _ (s .pre .0)) (c .before .before .before .before .links-fault .ensures .1)
+
+clear-bytes-requires : tie.Need-clear-bytes-requires
+clear-bytes-requires c κs = search needs
+
+plan-formed-requires : tie.Need-plan-formed-requires
+plan-formed-requires c κs =
+    let s = c .before .before .before .before .before .before .before .before .before .before .before .before .before .before .before .before .before .before .before in (
+      links-formed _ [] [] (sym (c .before .before .before .before .before .before .before .before .before .before .before .before .before .before .before .sizes-fault .ensures) ∙ c .before .before .before .before .before .before .before .before .before .before .before .before .before .before .if1 .left) (c .before .before .before .before .before .before .before .before .before .before .links-fault .result) (c .before .before .before .before .before .before .before .before .before .before .links-fault .ensures .0) _ _ (c .before .before .before .before .before .before .before .before .before .before .before .before .before .number-at .ensures .0) (c .before .before .before .before .before .before .before .before .before .before .before .before .number-at2 .ensures .0) (c .before .before .before .before .before .before .if2 .left),
+      s .pre .0,
+      c .before .before .before .before .clear-bytes .ensures ∙ ap (λ (k : ℕ). replicate k 0) (c .before .before .before .before .before .before .before .before .before .before .links-fault .ensures .1),
+    )
+
+same-length-2 : tie.Need-same-length-2
+same-length-2 c = search needs
+
+same-length-3 : tie.Need-same-length-3
+same-length-3 c = search needs
+
+returns-3 : tie.Need-returns-3
+returns-3 c =
+    rack-file-planned _ _ _ (sym (c .before .before .before .before .before .before .before .before .before .before .before .before .before .before .before .before .before .before .before .before .sizes-fault .ensures) ∙ c .before .before .before .before .before .before .before .before .before .before .before .before .before .before .before .before .before .before .before .if1 .left) (c .before .before .before .before .before .before .before .before .before .before .before .before .before .before .before .links-fault .result) (c .before .before .before .before .before .before .before .before .before .before .before .before .before .before .before .links-fault .ensures .0) _ (c .before .before .before .before .before .before .before .before .before .before .before .if2 .left) (c .before .before .before .before .plan-formed .ensures)
+
+pub plan-file-spec : {M : Type 1} → statement M
+plan-file-spec =
+    tie.close
+    (tie.spec
+    sizes-fault-requires
+    returns
+    number-at-requires
+    number-at-requires-2
+    links-fault-requires
+    same-length
+    returns-2
+    clear-bytes-requires
+    plan-formed-requires
+    same-length-2
+    same-length-3
+    returns-3)

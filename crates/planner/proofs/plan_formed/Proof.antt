@@ -1,0 +1,96 @@
+-- Each stage refuses with its number, or hands on what the next one needs. Assumes nothing.
+use mathlib.Core.List.{[]}
+use mathlib.Core.Path.{sym, _∙_}
+use native.Mathlib.Omega.{arith}
+use Rattle.planner.proofs.Zeros.{zeros-long}
+use Rattle.planner.proofs.Forms.{formed-cards}
+use Rattle.planner.proofs.RackPlanned.{reached, unreached-planned, odd-planned, none-planned, found-planned}
+use borrow.Author.Needs.{needs}
+use Rattle.planner.proofs.plan_formed.Statement.{statement}
+use Rattle.planner.proofs.plan_formed.Tie as tie
+
+link-order-requires : tie.Need-link-order-requires
+link-order-requires c κs = search needs
+
+reach-fault-requires : tie.Need-reach-fault-requires
+reach-fault-requires c κs = search needs
+
+same-length : tie.Need-same-length
+same-length c = search needs
+
+returns : tie.Need-returns
+returns c =
+    let s = c .before .before .before .before .before .before .before .before .before .before .before in
+    unreached-planned _ (c .before .before .before .before .reach-fault .result) _ _ (c .before .before .before .before .reach-fault .ensures .0) (c .if1 .taken) (zeros-long 1024 _ (s .pre .1)) (c .before .before .before .before .reach-fault .ensures .1)
+
+all-hops-requires : tie.Need-all-hops-requires
+all-hops-requires c κs =
+    let s = c .before .before .before .before .before .before .before .before .before .before .before .before .before in
+    let g = c .before .before .before .before .before .before .reach-fault in
+    (s .pre .0, reached _ (g .result) [] [] (g .ensures .0) (c .before .before .if1 .left), g .ensures .1)
+
+parity-fault-requires : tie.Need-parity-fault-requires
+parity-fault-requires c κs = search needs
+
+same-length-2 : tie.Need-same-length-2
+same-length-2 c = search needs
+
+returns-2 : tie.Need-returns-2
+returns-2 c =
+    let s = c .before .before .before .before .before .before .before .before .before .before .before .before .before .before .before .before .before .before .before .before in
+    let g = c .before .before .before .before .before .before .before .before .before .before .before .before .before .reach-fault in
+    odd-planned _ (c .before .before .parity-fault .result) _ _ (reached _ (g .result) [] [] (g .ensures .0) (c .before .before .before .before .before .before .before .before .before .if1 .left)) (c .before .before .parity-fault .ensures) (c .if2 .taken) (zeros-long 1024 _ (s .pre .1)) (c .before .before .before .before .before .before .all-hops .ensures .long)
+
+address-cards-requires : tie.Need-address-cards-requires
+address-cards-requires c κs =
+    let s = c .before .before .before .before .before .before .before .before .before .before .before .before .before .before .before .before .before .before .before .before .before .before in
+    let g = c .before .before .before .before .before .before .before .before .before .before .before .before .before .before .before .reach-fault in
+    (s .pre .0, reached _ (g .result) [] [] (g .ensures .0) (c .before .before .before .before .before .before .before .before .before .before .before .if1 .left), c .before .before .before .before .before .before .before .before .all-hops .ensures, s .pre .1)
+
+same-length-3 : tie.Need-same-length-3
+same-length-3 c = search needs
+
+same-length-4 : tie.Need-same-length-4
+same-length-4 c = search needs
+
+returns-3 : tie.Need-returns-3
+returns-3 c =
+    let s = c .before .before .before .before .before .before .before .before .before .before .before .before .before .before .before .before .before .before .before .before .before .before .before .before .before .before in
+    let g = c .before .before .before .before .before .before .before .before .before .before .before .before .before .before .before .before .before .before .before .reach-fault in
+    none-planned _ (c .before .before .before .before .before .before .before .before .parity-fault .result) _ _ (reached _ (g .result) [] [] (g .ensures .0) (c .before .before .before .before .before .before .before .before .before .before .before .before .before .before .before .if1 .left)) (c .before .before .before .before .before .before .before .before .parity-fault .ensures) (s .args .n) (c .before .before .before .address-cards .result) (c .before .before .before .before .before .before .if2 .left) (c .if3 .taken) (c .before .before .before .address-cards .ensures) (c .before .before .before .address-cards .kept .1 .1 .1 .1 .0 ∙ zeros-long 1024 _ (s .pre .1)) (c .before .before .before .before .before .before .before .before .before .before .before .before .all-hops .ensures .long)
+
+cast-t25 : tie.Need-cast-t25
+cast-t25 c = omega (arith, c .before .before .before .address-cards .ensures .most, c .before .before .before .before .before .before .before .before .before .before .before .before .before .before .before .before .before .before .before .before .before .before .before .before .before .before .pre .0 .sizes .few)
+
+same-length-5 : tie.Need-same-length-5
+same-length-5 c = search needs
+
+same-length-6 : tie.Need-same-length-6
+same-length-6 c = search needs
+
+returns-4 : tie.Need-returns-4
+returns-4 c =
+    let s = c .before .before .before .before .before .before .before .before .before .before .before .before .before .before .before .before .before .before .before .before .before .before .before .before .before .before in
+    let g = c .before .before .before .before .before .before .before .before .before .before .before .before .before .before .before .before .before .before .before .reach-fault in
+    found-planned _ (c .before .before .before .before .before .before .before .before .parity-fault .result) _ _ (reached _ (g .result) [] [] (g .ensures .0) (c .before .before .before .before .before .before .before .before .before .before .before .before .before .before .before .if1 .left)) (c .before .before .before .before .before .before .before .before .parity-fault .ensures) (s .args .n) (c .before .before .before .address-cards .result) (sym (formed-cards _ _ _ (s .pre .0))) (c .before .before .before .before .before .before .if2 .left) (omega (arith, c .before .before .before .address-cards .ensures .most, c .if3 .left)) (c .before .before .before .address-cards .ensures) (c .before .before .before .before .before .before .before .before .before .before .before .before .all-hops .ensures)
+
+pub plan-formed-spec : {M : Type 1} → statement M
+plan-formed-spec =
+    tie.close
+    (tie.spec
+    link-order-requires
+    reach-fault-requires
+    same-length
+    returns
+    all-hops-requires
+    parity-fault-requires
+    same-length-2
+    returns-2
+    address-cards-requires
+    same-length-3
+    same-length-4
+    returns-3
+    cast-t25
+    same-length-5
+    same-length-6
+    returns-4)

@@ -1,0 +1,77 @@
+-- The buffers are zero before the plan and again after a refusal. Assumes nothing.
+use mathlib.Core.Path.{refl, _∙_, ap}
+use mathlib.Core.Bool.{and-false}
+use Prim.Native.Nat.{ℕ}
+use lib.Dec.{eqb}
+use lib.ListN.{length, replicate}
+use borrow.Author.Tests.{ne-eqb}
+use Rattle.planner.proofs.PlanAnswer.{plan-says-one, plan-says-found, plan-says-refused}
+use Rattle.planner.proofs.PlanPromise.{addresses-found}
+use borrow.Author.Needs.{needs}
+use Rattle.planner.proofs.plan_rack.Statement.{statement}
+use Rattle.planner.proofs.plan_rack.Tie as tie
+
+returns : tie.Need-returns
+returns c =
+    let says = plan-says-one (c .before .before .before .before .args .file .now) _ (c .before .before .before .before .args .words .now) (c .before .before .before .before .args .hops .now) (rw (ne-eqb (length (c .before .before .before .before .args .words .now)) 1024 (c .if1 .taken)) refl) refl refl refl in
+    (says, λ a. addresses-found _ _ _ _ _ _ a says)
+
+returns-2 : tie.Need-returns-2
+returns-2 c =
+    let says = plan-says-one (c .before .before .before .before .before .args .file .now) _ (c .before .before .before .before .before .args .words .now) (c .before .before .before .before .before .args .hops .now) (rw (ne-eqb (length (c .before .before .before .before .before .args .hops .now)) 65536 (c .if2 .taken)) (and-false (eqb (length (c .before .before .before .before .before .args .words .now)) 1024))) refl refl refl in
+    (says, λ a. addresses-found _ _ _ _ _ _ a says)
+
+clear-words-requires : tie.Need-clear-words-requires
+clear-words-requires c κs = search needs
+
+clear-bytes-requires : tie.Need-clear-bytes-requires
+clear-bytes-requires c κs = search needs
+
+plan-file-requires : tie.Need-plan-file-requires
+plan-file-requires c κs = (c .before .before .before .before .before .before .before .before .clear-words .ensures ∙ ap (λ (k : ℕ). replicate k 0) (c .before .before .before .before .before .before .before .before .before .before .before .if1 .left), c .before .before .before .before .clear-bytes .ensures ∙ ap (λ (k : ℕ). replicate k 0) (c .before .before .before .before .before .before .before .before .before .before .if2 .left))
+
+clear-words-requires-2 : tie.Need-clear-words-requires-2
+clear-words-requires-2 c κs = search needs
+
+clear-bytes-requires-2 : tie.Need-clear-bytes-requires-2
+clear-bytes-requires-2 c κs = search needs
+
+same-length : tie.Need-same-length
+same-length c = search needs
+
+same-length-2 : tie.Need-same-length-2
+same-length-2 c = search needs
+
+returns-3 : tie.Need-returns-3
+returns-3 c =
+    let says = plan-says-refused (c .before .before .before .before .before .before .before .before .before .before .before .before .before .before .before .before .before .before .before .before .before .before .before .before .before .before .before .before .before .before .args .file .now) _ (c .before .before .before .before .before .before .before .before .before .before .before .before .before .before .before .before .before .before .before .before .before .before .before .before .before .before .before .before .before .before .args .words .now) _ (c .before .before .before .before .before .before .before .before .before .before .before .before .before .before .before .before .before .before .before .before .before .before .before .before .before .before .before .before .before .before .args .hops .now) _ (c .before .before .before .before .before .before .before .before .before .before .before .before .before .before .before .before .before .before .before .before .before .before .before .before .before .before .if1 .left) (c .before .before .before .before .before .before .before .before .before .before .before .before .before .before .before .before .before .before .before .before .before .before .before .before .before .if2 .left) (c .before .before .before .before .before .before .before .before .before .before .before .before .before .before .plan-file .ensures) _ _ (c .before .before .before .before .before .before .before .before .if3 .taken) (c .before .before .before .before .before .before .clear-words2 .ensures) (c .before .before .clear-bytes2 .ensures) in
+    (says, λ a. addresses-found _ _ _ _ _ _ a says)
+
+same-length-3 : tie.Need-same-length-3
+same-length-3 c = search needs
+
+same-length-4 : tie.Need-same-length-4
+same-length-4 c = search needs
+
+returns-4 : tie.Need-returns-4
+returns-4 c =
+    let says = plan-says-found (c .before .before .before .before .before .before .before .before .before .before .before .before .before .before .before .before .before .before .before .before .before .before .args .file .now) _ (c .before .before .before .before .before .before .before .before .before .before .before .before .before .before .before .before .before .before .before .before .before .before .args .words .now) _ (c .before .before .before .before .before .before .before .before .before .before .before .before .before .before .before .before .before .before .before .before .before .before .args .hops .now) _ (c .before .before .before .before .before .before .before .before .before .before .before .before .before .before .before .before .before .before .if1 .left) (c .before .before .before .before .before .before .before .before .before .before .before .before .before .before .before .before .before .if2 .left) (c .before .before .before .before .before .before .plan-file .ensures) (c .if3 .left) in
+    (says, λ a. addresses-found _ _ _ _ _ _ a says)
+
+pub plan-rack-spec : {M : Type 1} → statement M
+plan-rack-spec =
+    tie.close
+    (tie.spec
+    returns
+    returns-2
+    clear-words-requires
+    clear-bytes-requires
+    plan-file-requires
+    clear-words-requires-2
+    clear-bytes-requires-2
+    same-length
+    same-length-2
+    returns-3
+    same-length-3
+    same-length-4
+    returns-4)

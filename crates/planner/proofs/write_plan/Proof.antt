@@ -1,0 +1,80 @@
+-- The bytes written from the words are the plan of the file's wiring. Assumes nothing.
+use mathlib.Core.Path.{refl, _∙_, ap}
+use Prim.Native.Nat.{ℕ}
+use native.Mathlib.Omega.{arith}
+use lib.ListN.{replicate}
+use Rattle.planner.proofs.WriteAnswer.{write-says-one, write-says-refused, written-sizes, columns-few, write-says-found}
+use borrow.Author.Needs.{needs}
+use Rattle.planner.proofs.write_plan.Statement.{statement}
+use Rattle.planner.proofs.write_plan.Tie as tie
+
+returns : tie.Need-returns
+returns c = write-says-one (c .before .before .before .args .file .now) _ (c .before .before .before .args .output .now) (c .if1 .taken) refl refl refl
+
+slice-aggregate-plan-file : tie.Need-slice-aggregate-plan-file
+slice-aggregate-plan-file c = search needs
+
+slice-aggregate-plan-file-2 : tie.Need-slice-aggregate-plan-file-2
+slice-aggregate-plan-file-2 c = search needs
+
+plan-file-requires : tie.Need-plan-file-requires
+plan-file-requires c κs = search needs
+
+clear-bytes-requires : tie.Need-clear-bytes-requires
+clear-bytes-requires c κs = search needs
+
+same-length : tie.Need-same-length
+same-length c = search needs
+
+returns-2 : tie.Need-returns-2
+returns-2 c = write-says-refused (c .before .before .before .before .before .before .before .before .before .before .before .before .before .before .args .file .now) _ _ _ (c .before .before .before .before .before .before .before .before .before .before .before .before .before .before .args .output .now) (c .before .before .before .before .before .before .before .before .before .before .before .if1 .left) (c .before .before .before .before .before .before .before .before .plan-file .ensures) _ (c .if2 .taken) (c .before .before .before .before .clear-bytes .ensures)
+
+number-at-requires : tie.Need-number-at-requires
+number-at-requires c κs = omega (arith, written-sizes _ _ _ _ (c .before .before .before .before .before .before .before .before .before .before .before .before .before .before .args .output .now) (c .before .before .before .before .before .before .before .before .before .before .before .if1 .left) (c .before .before .before .before .before .before .before .before .plan-file .ensures) (c .if2 .left) _ _ refl refl .long)
+
+number-at-requires-2 : tie.Need-number-at-requires-2
+number-at-requires-2 c κs = omega (arith, written-sizes _ _ _ _ (c .before .before .before .before .before .before .before .before .before .before .before .before .before .before .before .args .output .now) (c .before .before .before .before .before .before .before .before .before .before .before .before .if1 .left) (c .before .before .before .before .before .before .before .before .before .plan-file .ensures) (c .before .if2 .left) _ _ refl refl .long)
+
+cast-put-plan : tie.Need-cast-put-plan
+cast-put-plan c = search needs
+
+slice-aggregate-put-plan : tie.Need-slice-aggregate-put-plan
+slice-aggregate-put-plan c = search needs
+
+put-plan-requires : tie.Need-put-plan-requires
+put-plan-requires c κs = (
+  written-sizes _ _ _ _ (c .before .before .before .before .before .before .before .before .before .before .before .before .before .before .before .before .before .before .before .args .output .now) (c .before .before .before .before .before .before .before .before .before .before .before .before .before .before .before .before .if1 .left) (c .before .before .before .before .before .before .before .before .before .before .before .before .before .plan-file .ensures) (c .before .before .before .before .before .if2 .left) _ _ (c .before .before .before .before .number-at .ensures .0) (c .before .before .before .number-at2 .ensures .0),
+  columns-few _ _ _ _ (c .before .before .before .before .before .before .before .before .before .before .before .before .before .before .before .before .before .before .before .args .output .now) (c .before .before .before .before .before .before .before .before .before .before .before .before .before .before .before .before .if1 .left) (c .before .before .before .before .before .before .before .before .before .before .before .before .before .plan-file .ensures) (c .before .before .before .before .before .if2 .left),
+  c .before .before .before .before .before .before .before .before .before .before .before .before .before .plan-file .ensures .long-words,
+  c .before .before .before .before .before .before .before .before .before .clear-bytes .ensures ∙ ap (λ (k : ℕ). replicate k 0) (c .before .before .before .before .before .before .before .before .before .before .before .before .before .before .before .before .if1 .left),
+)
+
+cast-t22 : tie.Need-cast-t22
+cast-t22 c = search needs
+
+same-length-2 : tie.Need-same-length-2
+same-length-2 c = search needs
+
+returns-3 : tie.Need-returns-3
+returns-3 c =
+    write-says-found (c .before .before .before .before .before .before .before .before .before .before .before .before .before .before .before .before .before .before .before .before .before .before .args .file .now) _ _ _ (c .before .before .before .before .before .before .before .before .before .before .before .before .before .before .before .before .before .before .before .before .before .before .args .output .now) (c .before .before .before .before .before .before .before .before .before .before .before .before .before .before .before .before .before .before .before .if1 .left) (c .before .before .before .before .before .before .before .before .before .before .before .before .before .before .before .before .plan-file .ensures) (c .before .before .before .before .before .before .before .before .if2 .left) _ _ (c .before .before .put-plan .kept .1 .1 .1 .1 .1 .0 ∙ c .before .before .before .before .before .before .before .before .before .before .before .before .clear-bytes .kept .0) (c .before .before .put-plan .ensures .0) (c .before .before .put-plan .ensures .1)
+
+pub write-plan-spec : {M : Type 1} → statement M
+write-plan-spec =
+    tie.close
+    (tie.spec
+    returns
+    slice-aggregate-plan-file
+    slice-aggregate-plan-file-2
+    plan-file-requires
+    clear-bytes-requires
+    same-length
+    returns-2
+    number-at-requires
+    number-at-requires-2
+    cast-put-plan
+    slice-aggregate-put-plan
+    put-plan-requires
+    cast-t22
+    same-length-2
+    returns-3)

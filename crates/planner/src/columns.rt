@@ -1,0 +1,106 @@
+// Columns and the words of the addresses: a link opens a column where its ends have the same address so far.
+ghost use mathlib.Core.Path.{_≡_};
+ghost use Prim.Native.Nat.{ℕ, _+_, _*_, _/_, _%_, _^_, _<_, _≤_};
+ghost use lib.ListN.{length, getD, replicate};
+ghost use Rattle.rack.specs.Lists.{one};
+ghost use Rattle.rack.specs.Ones.{Counts};
+ghost use Rattle.rack.specs.WiringFile.{file-wiring};
+ghost use Rattle.planner.specs.Formed.{Formed};
+ghost use Rattle.planner.specs.Tables.{Hops-in};
+ghost use Rattle.planner.specs.Opening.{Column-added, Opened, side-in, words-hamming};
+use rack::bytes::first_end;
+use rack::bytes::second_end;
+use rack::places::word_hamming;
+
+// The places in which the words of two cards differ.
+pub fn card_hamming(ones: &[u8; 256], words: &[u64], a: usize, b: usize) -> u32
+    requires { ⌜ Counts (now ones) × (length (now words) ≡ 1024) × (a < 256) × (b < 256) ⌝ }
+    ensures { λ r. ⌜ r ≡ words-hamming (now (words .entry)) a b ⌝ }
+{
+    let p = word_hamming(ones, words[4 * a], words[4 * b]);
+    let q = word_hamming(ones, words[4 * a + 1], words[4 * b + 1]);
+    let r = word_hamming(ones, words[4 * a + 2], words[4 * b + 2]);
+    let s = word_hamming(ones, words[4 * a + 3], words[4 * b + 3]);
+    p + q + r + s
+}
+
+// `weight` where card `c` is in the set without card 0 at a link from `p` to `q`, else 0.
+fn side_weight(hops: &[u8], p: usize, q: usize, c: usize, weight: u64) -> u64
+    requires { ⌜ (length (now hops) ≡ 65536) × (p < 256) × (q < 256) × (c < 256) ⌝ }
+    ensures { λ r. ⌜ r ≡ one (side-in (now (hops .entry)) p q c) * weight ⌝ }
+{
+    if hops[256 * c + p] < hops[256 * c + q] {
+        if hops[p] < hops[q] {
+            return 0;
+        }
+        return weight;
+    }
+    if hops[p] < hops[q] {
+        return weight;
+    }
+    0
+}
+
+// Adds column `k`, that of a link from `p` to `q`, to the words of the `n` cards.
+fn add_column(hops: &[u8], n: usize, p: usize, q: usize, k: usize, words: &mut [u64])
+    requires { ⌜ (length (now hops) ≡ 65536) × (length (now words) ≡ 1024) × (n ≤ 256) × (p < 256) × (q < 256) × (k < 256) × ((c : ℕ) → c < n → getD (now words) (4 * c + k / 64) 0 < 2 ^ (k % 64)) ⌝ }
+    ensures { λ _. ⌜ Column-added (now (hops .entry)) (now (words .entry)) (now (words .exit)) p q k n ⌝ }
+{
+    let word = k / 64;
+    let weight = 1u64 << (k % 64);
+    let mut c: usize = 0;
+    while c < n {
+        words[4 * c + word] = words[4 * c + word] + side_weight(hops, p, q, c, weight);
+        c += 1;
+    }
+}
+
+// Opens a column for link `i` where the addresses of its ends are equal so far; gives the number of columns, or `n` where there is no room for one more.
+fn open_link(
+    ones: &[u8; 256],
+    file: &[u8],
+    n: usize,
+    m: usize,
+    i: usize,
+    hops: &[u8],
+    k: usize,
+    words: &mut [u64],
+) -> usize
+    requires { ⌜ Counts (now ones) × Formed (now file) n m × (i < m) × Hops-in (file-wiring (now file)) (now hops) × (k < n) × Opened (file-wiring (now file)) n i (now words) k ⌝ }
+    ensures { λ r. ⌜ Opened (file-wiring (now (file .entry))) n (i + 1) (now (words .exit)) r ⌝ }
+{
+    let p = first_end(file, 4, m, i);
+    let q = second_end(file, 4, m, i);
+    if card_hamming(ones, words, p, q) != 0 {
+        return k;
+    }
+    if n <= k + 1 {
+        return n;
+    }
+    add_column(hops, n, p, q, k, words);
+    k + 1
+}
+
+// Opens the columns of all links, in words that are zero at entry.
+pub fn open_columns(
+    ones: &[u8; 256],
+    file: &[u8],
+    n: usize,
+    m: usize,
+    hops: &[u8],
+    words: &mut [u64],
+) -> usize
+    requires { ⌜ Counts (now ones) × Formed (now file) n m × Hops-in (file-wiring (now file)) (now hops) × (now words ≡ replicate 1024 0) ⌝ }
+    ensures { λ r. ⌜ Opened (file-wiring (now (file .entry))) n m (now (words .exit)) r ⌝ }
+{
+    let mut k: usize = 0;
+    let mut i: usize = 0;
+    while i < m {
+        k = open_link(ones, file, n, m, i, hops, k, words);
+        if k == n {
+            return n;
+        }
+        i += 1;
+    }
+    k
+}

@@ -1,0 +1,93 @@
+// The plan's bytes, written into a lent buffer that is zero at entry: sizes, ends of the links, addresses.
+ghost use mathlib.Core.Path.{_≡_};
+ghost use Prim.Native.Nat.{_+_, _*_, _<_, _≤_};
+ghost use lib.ListN.{length, replicate};
+ghost use Rattle.rack.specs.Lists.{tabulate, blocks};
+ghost use Rattle.rack.specs.WiringFile.{two-bytes};
+ghost use Rattle.planner.specs.Formed.{Sizes-are};
+ghost use Rattle.planner.specs.Writing.{Appends, Written, end-pair, word-byte, written-bytes};
+ghost use mathlib.Core.List.{_++_};
+use rack::bytes::number_at;
+
+// Appends a number of 16 bits, low byte first.
+fn put_number(output: &mut [u8], at: usize, v: usize)
+    requires { ⌜ at + 1 < length (now output) ⌝ }
+    ensures { λ _. ⌜ Appends at (now (output .entry)) (now (output .exit)) (two-bytes v) ⌝ }
+{
+    output[at] = (v % 256) as u8;
+    output[at + 1] = (v / 256 % 256) as u8;
+}
+
+// Writes the three sizes.
+fn put_sizes(output: &mut [u8], n: usize, m: usize, k: usize)
+    requires { ⌜ 6 ≤ length (now output) ⌝ }
+    ensures { λ _. ⌜ Appends 0 (now (output .entry)) (now (output .exit)) (two-bytes n ++ two-bytes m ++ two-bytes k) ⌝ }
+{
+    put_number(output, 0, n);
+    put_number(output, 2, m);
+    put_number(output, 4, k);
+}
+
+// Appends the first `count` numbers of a file from byte 4 on: the ends of its links.
+fn put_ends(file: &[u8], count: usize, output: &mut [u8])
+    requires { ⌜ (4 + 2 * count ≤ length (now file)) × (6 + 2 * count ≤ length (now output)) ⌝ }
+    ensures { λ _. ⌜ Appends 6 (now (output .entry)) (now (output .exit)) (blocks count (end-pair (now (file .entry)))) ⌝ }
+{
+    let mut i: usize = 0;
+    while i < count {
+        put_number(output, 6 + 2 * i, number_at(file, 4 + 2 * i));
+        i += 1;
+    }
+}
+
+// Byte `t` of the words of card `c`.
+fn address_byte(words: &[u64], c: usize, t: usize) -> u8
+    requires { ⌜ (length (now words) ≡ 1024) × (c < 256) × (t < 32) ⌝ }
+    ensures { λ r. ⌜ r ≡ word-byte (now (words .entry)) c t ⌝ }
+{
+    ((words[4 * c + t / 8] >> (8 * (t % 8))) % 256) as u8
+}
+
+// Appends the first `size` bytes of the words of card `c`.
+fn put_address(words: &[u64], c: usize, size: usize, output: &mut [u8], at: usize)
+    requires { ⌜ (length (now words) ≡ 1024) × (c < 256) × (size ≤ 32) × (at + size ≤ length (now output)) ⌝ }
+    ensures { λ _. ⌜ Appends at (now (output .entry)) (now (output .exit)) (tabulate size (word-byte (now (words .entry)) c)) ⌝ }
+{
+    let mut t: usize = 0;
+    while t < size {
+        output[at + t] = address_byte(words, c, t);
+        t += 1;
+    }
+}
+
+// Appends the addresses of `n` cards.
+fn put_addresses(words: &[u64], n: usize, size: usize, output: &mut [u8], at: usize)
+    requires { ⌜ (length (now words) ≡ 1024) × (n ≤ 256) × (size ≤ 32) × (at + n * size ≤ length (now output)) ⌝ }
+    ensures { λ _. ⌜ Appends at (now (output .entry)) (now (output .exit)) (blocks n (λ c. tabulate size (word-byte (now (words .entry)) c))) ⌝ }
+{
+    let mut c: usize = 0;
+    while c < n {
+        put_address(words, c, size, output, at + c * size);
+        c += 1;
+    }
+}
+
+// Writes the plan of a file with `n` cards, `m` links and `k` columns, whose addresses are in the words; gives its length.
+pub fn put_plan(
+    file: &[u8],
+    n: usize,
+    m: usize,
+    k: usize,
+    words: &[u64],
+    output: &mut [u8],
+) -> usize
+    requires { ⌜ Sizes-are (now file) n m × (k ≤ 255) × (length (now words) ≡ 1024) × (now output ≡ replicate 16390 0) ⌝ }
+    ensures bytes { λ r. ⌜ Written (now (output .exit)) (written-bytes (now (file .entry)) (now (words .entry)) k) ⌝ }
+    ensures long { λ r. ⌜ r ≡ length (written-bytes (now (file .entry)) (now (words .entry)) k) ⌝ }
+{
+    let size = (k + 7) / 8;
+    put_sizes(output, n, m, k);
+    put_ends(file, 2 * m, output);
+    put_addresses(words, n, size, output, 6 + 4 * m);
+    6 + 4 * m + n * size
+}
