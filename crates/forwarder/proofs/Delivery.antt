@@ -1,7 +1,7 @@
 -- Delivery, from the reader's promise alone: a step leads one hop nearer, and a walk arrives by the fewest links. Assumes nothing.
 use mathlib.Core.Path.{_≡_, refl, sym, ap}
 use mathlib.Core.Bool.{true}
-use mathlib.Core.Logic.{inl, inr, _≢_}
+use mathlib.Core.Logic.{_≢_}
 use mathlib.Core.List.{List, [], _∷_}
 use Prim.Native.Nat.{ℕ, zero, suc, _-_, _<_}
 use native.Mathlib.Omega.{arith}
@@ -16,9 +16,10 @@ use Rattle.rack.proofs.Hops.{hops-self, hops-zero, hops-triangle, hops-linked, 
 use Rattle.rack.proofs.WiringFile.{wiring-at-cards}
 use Rattle.reader.specs.Plan.{plan-cards, plan-columns, plan-wiring}
 use Rattle.reader.specs.Promises.{Measured}
+use Rattle.reader.proofs.Addresses.{hamming-columns}
 use Rattle.forwarder.specs.Forwarding.{Walk, walk-of, step, walk-from, walk}
-use Rattle.forwarder.proofs.Step.{touches-ends, ends-touch, Nearer, facts-nearer, step-here, step-two, nearer-two, hamming-columns}
-use Rattle.forwarder.proofs.Walk.{walk-ended, after, walk-goes-on}
+use Rattle.forwarder.proofs.Stepping.{touches-ends, ends-touch, other-end-below, facts-nearer, step-here, step-two, nearer-two}
+use Rattle.forwarder.proofs.Walking.{walk-ended, after, walk-goes-on}
 
 module _ (ps : List ℕ) (m : Measured ps) where
   abbrev inner : Wiring
@@ -36,17 +37,13 @@ module _ (ps : List ℕ) (m : Measured ps) where
       let o = step-two ps a b e in
       let l = link-at inner (step ps a b .link) in
       let ends = touches-ends a l (o .nearer .of-a) in
-      let inside = other-inside a l (o .nearer) ends in
+      let inside = other-end-below (plan-cards ps) a l (o .nearer .first) (o .nearer .second) in
       let joined = link-linked inner a (other-end a l) l (in-getD (inner .links) (step ps a b .link) (link 0 0) (o .inside)) ends in
       rw (o .far) (
         inside,
         joined,
         omega (arith, o .nearer .less, same-cards, m .measured a b ha hb, m .measured (other-end a l) b inside hb, hops-linked inner a (other-end a l) (omega (arith, same-cards)) joined, hops-triangle inner a (other-end a l) b),
       )
-    where
-      other-inside : (a : ℕ) (l : Link) → Nearer ps a b l → Ends a (other-end a l) l → other-end a l < plan-cards ps
-      other-inside a l f (inl e) = rw (e .1) at (f .second)
-      other-inside a l f (inr e) = rw (e .0) at (f .first)
 
   -- a link to a card nearer to b is enough for a step
   link-step : (a b c i : ℕ) → a < plan-cards ps → b < plan-cards ps → c < plan-cards ps → i < link-count inner → Ends a c (link-at inner i)

@@ -1,5 +1,11 @@
-pub mod Step
+pub mod Stepping
 pub mod StepLocal
-pub mod Walk
+pub mod Searching
+pub mod Frames
+pub mod Walking
+pub mod Routes
+pub mod Answers
+pub mod Copies
 pub mod Delivery
+pub mod Arrival
 pub mod Promises

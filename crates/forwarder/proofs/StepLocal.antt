@@ -1,23 +1,25 @@
 -- A step depends on its two cards, the first card's links, their addresses and the sizes, and on nothing else. Assumes nothing.
 use mathlib.Core.Path.{_≡_, refl, sym, ap, ap₂, _∙_}
-use mathlib.Core.Bool.{Bool, true, false, _&&_, and-comm, and-true, and-false}
+use mathlib.Core.Bool.{Bool, true, false, _&&_, cond, and-comm, and-true, and-false}
 use mathlib.Core.Logic.{inl, inr, _≢_}
 use mathlib.Core.List.{List}
 use Prim.Native.Nat.{ℕ, _<_}
 use native.Mathlib.Omega.{arith}
-use lib.Dec.{ltb}
-use Rattle.rack.specs.Lists.{differ, range, lowest}
+use lib.Dec.{ltb, eqb}
+use Rattle.rack.specs.Lists.{lowest}
 use Rattle.rack.specs.Wiring.{Link, link-count, link-at, touches, other-end}
-use Rattle.rack.specs.Columns.{hamming}
 use Rattle.rack.proofs.Logic.{by-bool, by-eq, by-lt}
-use Rattle.rack.proofs.Lists.{count-ext}
-use Rattle.rack.proofs.Tables.{range-in, lowest-passes, lowest-ext}
+use Rattle.rack.proofs.Tables.{lowest-passes, lowest-ext}
+use Rattle.rack.proofs.Hamming.{hamming-ext}
 use Rattle.rack.proofs.Paths.{Ends}
 use Rattle.rack.proofs.WiringFile.{wiring-at-count}
-use Rattle.reader.specs.Plan.{plan-cards, plan-columns, plan-wiring, plan-bit, plan-hamming}
-use Rattle.forwarder.specs.Forwarding.{step-of, leads-nearer, step}
-use Rattle.forwarder.specs.Promises.{Link-of, Step-local}
-use Rattle.forwarder.proofs.Step.{touches-ends, nearer-facts, next-link, step-here, step-over, step-stuck}
+use Rattle.reader.specs.Plan.{plan-cards, plan-columns, layout-holds, plan-wiring, plan-bit, plan-hamming}
+use Rattle.reader.specs.Reading.{layout-refusal}
+use Rattle.forwarder.specs.Forwarding.{Step, step-of, leads-nearer, step}
+use Rattle.forwarder.specs.Promises.{Link-of, Step-local, Step-call-local}
+use Rattle.forwarder.specs.Calls.{step-refusal}
+use Rattle.forwarder.specs.declared.step.Stepped.{Stepped}
+use Rattle.forwarder.proofs.Stepping.{touches-ends, nearer-facts, next-link, step-here, step-over, step-stuck}
 
 -- the test of a link by card a and the other end
 abbrev other-test : List ℕ → (a b c : ℕ) → Bool
@@ -34,13 +36,11 @@ leads-nearer-other ps a b l =
     (λ (t : touches a l ≡ true). rw (t, ends-test (plan-cards ps) a l (touches-ends a l t), and-true (ltb a (plan-cards ps) && ltb (other-end a l) (plan-cards ps))) refl)
     (λ (t : touches a l ≡ false). rw (t, and-false (ltb (l .first) (plan-cards ps) && ltb (l .second) (plan-cards ps))) refl)
 
-hamming-ext : (ps qs : List ℕ) (c d b : ℕ) → plan-columns ps ≡ plan-columns qs → ((j : ℕ) → j < plan-columns ps → plan-bit ps c j ≡ plan-bit qs d j)
+plan-hamming-ext : (ps qs : List ℕ) (c d b : ℕ) → plan-columns ps ≡ plan-columns qs → ((j : ℕ) → j < plan-columns ps → plan-bit ps c j ≡ plan-bit qs d j)
     → ((j : ℕ) → j < plan-columns ps → plan-bit ps b j ≡ plan-bit qs b j) → plan-hamming ps c b ≡ plan-hamming qs d b
-unfolding plan-hamming hamming
-hamming-ext ps qs c d b e hc hb =
-    rw (← e)
-    (count-ext (λ j. differ (plan-bit ps c j) (plan-bit ps b j)) (λ j. differ (plan-bit qs d j) (plan-bit qs b j)) (range (plan-columns ps))
-    (λ j m. let l = range-in (plan-columns ps) j m in ap₂ differ (hc j l) (hb j l)))
+unfolding plan-hamming
+plan-hamming-ext ps qs c d b e hc hb =
+    rw (← e) (hamming-ext (plan-columns ps) (plan-bit ps c) (plan-bit ps b) (plan-bit qs d) (plan-bit qs b) hc hb)
 
 pub step-local : Step-local
 unfolding Step-local
@@ -53,11 +53,11 @@ step-local ps qs a b en em ek touch other bits far = by-eq a b here there
     here e = rw e (step-here ps b ∙ sym (step-here qs b))
 
     same-hamming : plan-hamming ps a b ≡ plan-hamming qs a b
-    same-hamming = hamming-ext ps qs a a b ek (λ j l. bits j l .0) (λ j l. bits j l .1)
+    same-hamming = plan-hamming-ext ps qs a a b ek (λ j l. bits j l .0) (λ j l. bits j l .1)
 
     far-hamming : (i : ℕ) → Link-of ps a i → plan-hamming ps (other-end a (link-at (plan-wiring ps) i)) b ≡ plan-hamming qs (other-end a (link-at (plan-wiring qs) i)) b
     far-hamming i h =
-        hamming-ext ps qs (other-end a (link-at (plan-wiring ps) i)) (other-end a (link-at (plan-wiring qs) i)) b ek
+        plan-hamming-ext ps qs (other-end a (link-at (plan-wiring ps) i)) (other-end a (link-at (plan-wiring qs) i)) b ek
         (λ j l. far i j h l ∙ ap (λ (c : ℕ). plan-bit qs c j) (other i h)) (λ j l. bits j l .1)
 
     same-other : (i : ℕ) → Link-of ps a i → other-test ps a b (other-end a (link-at (plan-wiring ps) i)) ≡ other-test qs a b (other-end a (link-at (plan-wiring qs) i))
@@ -86,3 +86,31 @@ step-local ps qs a b en em ek touch other bits far = by-eq a b here there
         ∙ ap₂ (step-of 2) same-next (other (next-link ps a b) (h, f .of-a) ∙ ap (λ (i : ℕ). other-end a (link-at (plan-wiring qs) i)) same-next)
         ∙ sym (step-over qs a b n (omega (arith, counts, same-next))))
         (λ h. step-stuck ps a b n h ∙ sym (step-stuck qs a b n (omega (arith, counts, same-next))))
+
+-- answers are equal by their fields
+stepped : (number outcome link far : ℕ) → Stepped
+stepped n o i c = record { number = n; outcome = o; link = i; far = c }
+
+module _ (r s : Stepped) (number : r .number ≡ s .number) (outcome : r .outcome ≡ s .outcome) (link : r .link ≡ s .link) (far : r .far ≡ s .far) where
+  same-fields : stepped (r .number) (r .outcome) (r .link) (r .far) ≡ stepped (s .number) (s .outcome) (s .link) (s .far)
+  same-fields = cc (number, outcome, link, far)
+
+  same-stepped : r ≡ s
+  unfolding stepped
+  same-stepped = same-fields
+
+-- THE CALL: the layout depends on the length and the sizes, and the refusal on these and the cards
+pub step-call-local : Step-call-local
+unfolding Step-call-local Step-local layout-holds layout-refusal step-refusal
+step-call-local ps qs a b en em ek touch other bits far r s long hr hs =
+    same-stepped r s (hr .number ∙ refusals ∙ sym (hs .number)) (same (λ x. x .outcome) (hr .outcome) (hs .outcome))
+    (same (λ x. x .link) (hr .link) (hs .link)) (same (λ x. x .far) (hr .far) (hs .far))
+  where
+    refusals : step-refusal ps a b ≡ step-refusal qs a b
+    refusals = rw (long, en, em, ek) refl
+
+    steps : step ps a b ≡ step qs a b
+    steps = step-local ps qs a b en em ek touch other bits far
+
+    same : (f : Step → ℕ) {x y : ℕ} → x ≡ cond (eqb (step-refusal ps a b) 0) (f (step ps a b)) 0 → y ≡ cond (eqb (step-refusal qs a b) 0) (f (step qs a b)) 0 → x ≡ y
+    same f hx hy = hx ∙ ap₂ (λ (n : ℕ) (v : Step). cond (eqb n 0) (f v) 0) refusals steps ∙ sym hy

@@ -7,14 +7,12 @@ use Prim.Native.Nat.{ℕ, _≤_, _<_}
 use native.Mathlib.Omega.{arith}
 use lib.Dec.{ltb, eqb}
 use borrow.Author.Tests.{eqb-true, eq-eqb, ne-eqb, ltb-true, lt-ltb, le-ltb}
-use Rattle.rack.specs.Lists.{differ, range, lowest}
+use Rattle.rack.specs.Lists.{lowest}
 use Rattle.rack.specs.Wiring.{Link, Wiring, link-count, link-at, touches, other-end}
-use Rattle.rack.specs.Columns.{hamming}
-use Rattle.rack.proofs.Logic.{by-eq, by-lt, or-cases, or-left, or-right, and-left, and-right}
-use Rattle.rack.proofs.Lists.{count-le-length}
-use Rattle.rack.proofs.Tables.{length-tabulate, lowest-passes, lowest-least, lowest-is}
+use Rattle.rack.proofs.Logic.{by-bool, by-eq, by-lt, or-cases, or-left, or-right, and-left, and-right}
+use Rattle.rack.proofs.Tables.{lowest-passes, lowest-least, lowest-is}
 use Rattle.rack.proofs.Paths.{Ends}
-use Rattle.reader.specs.Plan.{plan-cards, plan-columns, plan-wiring, plan-bit, plan-hamming}
+use Rattle.reader.specs.Plan.{plan-cards, plan-wiring, plan-hamming}
 use Rattle.forwarder.specs.Forwarding.{step-of, leads-nearer, step}
 use Rattle.forwarder.specs.Promises.{Step-first}
 
@@ -30,6 +28,10 @@ pub ends-touch : (a c : ℕ) (l : Link) → Ends a c l → c ≢ a → (touches 
 unfolding touches other-end
 ends-touch a c l (inl e) n = (or-left (eqb (l .first) a) (eqb (l .second) a) (eq-eqb (l .first) a (e .0)), rw (eq-eqb (l .first) a (e .0)) (e .1))
 ends-touch a c l (inr e) n = (or-right (eqb (l .first) a) (eqb (l .second) a) (eq-eqb (l .second) a (e .1)), rw (ne-eqb (l .first) a (λ f. n (sym (e .0) ∙ f))) (e .0))
+
+pub other-end-below : (n a : ℕ) (l : Link) → l .first < n → l .second < n → other-end a l < n
+unfolding other-end
+other-end-below n a l h k = by-bool (eqb (l .first) a) (λ (t : eqb (l .first) a ≡ true). rw t k) (λ (t : eqb (l .first) a ≡ false). rw t h)
 
 module _ (ps : List ℕ) where
   abbrev inner : Wiring
@@ -84,6 +86,15 @@ module _ (ps : List ℕ) where
   unfolding step
   step-stuck a b n h = rw (ne-eqb a b n, le-ltb (next-link a b) (link-count inner) h) refl
 
+  pub step-outcome-le : (a b : ℕ) → step ps a b .outcome ≤ 2
+  unfolding step
+  step-outcome-le a b =
+      by-bool (eqb a b)
+      (λ (t : eqb a b ≡ true). rw t (omega arith))
+      (λ (t : eqb a b ≡ false). rw t (by-bool (ltb (next-link a b) (link-count inner))
+      (λ (u : ltb (next-link a b) (link-count inner) ≡ true). rw u (omega arith))
+      (λ (u : ltb (next-link a b) (link-count inner) ≡ false). rw u (omega arith))))
+
   -- a step over a link: it leads nearer
   pub record Over (a b : ℕ) : Type 0 where
     pub inside : step ps a b .link < link-count inner
@@ -112,10 +123,6 @@ module _ (ps : List ℕ) where
   pub nearer-two : (a b : ℕ) → a ≢ b → (i : ℕ) → i < link-count inner → leads-nearer ps a b (link-at inner i) ≡ true → step ps a b .outcome ≡ 2
   nearer-two a b n i h t =
       rw (step-over a b n (omega (arith, lowest-least (link-count inner) (λ i. leads-nearer ps a b (link-at inner i)) i t))) refl
-
-  pub hamming-columns : (a b : ℕ) → plan-hamming ps a b ≤ plan-columns ps
-  unfolding plan-hamming hamming
-  hamming-columns a b = omega (arith, count-le-length (λ j. differ (plan-bit ps a j) (plan-bit ps b j)) (range (plan-columns ps)), length-tabulate (plan-columns ps) (λ i. i))
 
 pub step-first : Step-first
 unfolding Step-first

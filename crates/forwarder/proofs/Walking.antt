@@ -9,9 +9,10 @@ use borrow.Author.Tests.{eq-eqb, ne-eqb}
 use Rattle.rack.proofs.Logic.{by-eq}
 use Rattle.reader.specs.Plan.{plan-columns, plan-hamming}
 use Rattle.reader.proofs.Plan.{layout-facts}
+use Rattle.reader.proofs.Addresses.{hamming-columns}
 use Rattle.forwarder.specs.Forwarding.{Walk, walk-of, step, walk-from, walk}
 use Rattle.forwarder.specs.Promises.{Steps-along, last-of, Walk-ends}
-use Rattle.forwarder.proofs.Step.{step-less, hamming-columns}
+use Rattle.forwarder.proofs.Stepping.{step-less}
 
 module _ (ps : List ℕ) where
   pub walk-ended : (left a b : ℕ) → step ps a b .outcome ≢ 2 → walk-from (suc left) ps a b ≡ walk-of (step ps a b .outcome) (a ∷ []) []

@@ -1,2 +1,4 @@
 pub mod Forwarding
+pub mod Calls
+pub mod Parts
 pub mod Promises

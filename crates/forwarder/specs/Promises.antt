@@ -9,6 +9,8 @@ use Rattle.rack.specs.Wiring.{link-count, link-at, touches, other-end}
 use Rattle.rack.specs.Hops.{hops, is-path}
 use Rattle.reader.specs.Plan.{plan-cards, plan-links, plan-columns, plan-wiring, layout-holds, plan-refusal, plan-bit}
 use Rattle.forwarder.specs.Forwarding.{step-of, leads-nearer, step, walk}
+use Rattle.forwarder.specs.Calls.{Step-says}
+use Rattle.forwarder.specs.declared.step.Stepped.{Stepped}
 
 -- "It takes the first whose far address differs from b's in fewer places than a's own does": arrived exactly if a = b,
 -- over a link exactly if that link leads nearer and no lower one does, else stuck
@@ -26,16 +28,26 @@ Step-first =
 abbrev pub Link-of : List ℕ → (a i : ℕ) → Type 0
 Link-of ps a i = (i < link-count (plan-wiring ps)) × (touches a (link-at (plan-wiring ps) i) ≡ true)
 
--- "The step depends on a and b, a's links, the far addresses, a's own address and b's, and on nothing else beyond the three sizes"
-unfoldable pub Step-local : Type 0
-Step-local =
-    (ps qs : List ℕ) (a b : ℕ) → plan-cards ps ≡ plan-cards qs → plan-links ps ≡ plan-links qs → plan-columns ps ≡ plan-columns qs →
+-- where two plans agree in "a's links, the far addresses, a's own address and b's" and in "the three sizes"
+abbrev pub If-alike : (ps qs : List ℕ) → (a b : ℕ) → (claim : Type 0) → Type 0
+If-alike ps qs a b claim =
+    plan-cards ps ≡ plan-cards qs → plan-links ps ≡ plan-links qs → plan-columns ps ≡ plan-columns qs →
     ((i : ℕ) → i < plan-links ps → touches a (link-at (plan-wiring ps) i) ≡ touches a (link-at (plan-wiring qs) i)) →
     ((i : ℕ) → Link-of ps a i → other-end a (link-at (plan-wiring ps) i) ≡ other-end a (link-at (plan-wiring qs) i)) →
     ((j : ℕ) → j < plan-columns ps → (plan-bit ps a j ≡ plan-bit qs a j) × (plan-bit ps b j ≡ plan-bit qs b j)) →
     ((i j : ℕ) → Link-of ps a i → j < plan-columns ps →
     let c = other-end a (link-at (plan-wiring ps) i) in plan-bit ps c j ≡ plan-bit qs c j) →
-    step ps a b ≡ step qs a b
+    claim
+
+-- "The step depends on a and b, a's links, the far addresses, a's own address and b's, and on nothing else beyond the three sizes"
+unfoldable pub Step-local : Type 0
+Step-local = (ps qs : List ℕ) (a b : ℕ) → If-alike ps qs a b (step ps a b ≡ step qs a b)
+
+-- so do the refusal and the answer of the call, with the plan's length
+unfoldable pub Step-call-local : Type 0
+Step-call-local =
+    (ps qs : List ℕ) (a b : ℕ) →
+    If-alike ps qs a b ((r s : Stepped) → length ps ≡ length qs → Step-says ps a b r → Step-says qs a b s → r ≡ s)
 
 -- the cards met and the links taken are those of one step after another, and the last step is not over a link
 abbrev pub Steps-along : List ℕ → (b : ℕ) → (met taken : List ℕ) → Type 0

@@ -1,1 +1,3 @@
-// Steps and walks on a plan's bytes: definitions in specs/, delivery in proofs/.
+// Steps and walks on a plan's bytes. Definitions in specs/, delivery in proofs/.
+pub mod step;
+pub mod walk;

@@ -1,15 +1,13 @@
 -- The promises of specs/Promises.antt, proved. Assumes nothing.
-use mathlib.Core.Path.{_≡_, ap₂, _∙_, subst}
+use mathlib.Core.Path.{_≡_, _∙_, subst}
 use mathlib.Core.List.{List}
 use Prim.Native.Nat.{ℕ, _≤_, _<_}
 use native.Mathlib.Omega.{arith}
-use Rattle.rack.specs.Lists.{differ, range}
 use Rattle.rack.specs.Wiring.{Wiring, link-count}
 use Rattle.rack.specs.Hops.{hops}
 use Rattle.rack.specs.WiringFile.{most-cards, most-links, file-wiring, file-refusal, file-bytes}
-use Rattle.rack.specs.Columns.{column-count, address, hamming}
-use Rattle.rack.proofs.Lists.{count-ext}
-use Rattle.rack.proofs.Tables.{range-in}
+use Rattle.rack.specs.Columns.{column-count, address}
+use Rattle.rack.proofs.Hamming.{hamming-ext}
 use Rattle.rack.proofs.Hops.{connected-all}
 use Rattle.rack.proofs.Accepted.{Accepted, wiring-accepted, accepted-inside, file-clear, clear-file}
 use Rattle.rack.proofs.WiringFile.{Fits, wiring-at-cards, wiring-at-count, file-bytes-wiring, file-bytes-sized, sized-clear}
@@ -53,11 +51,10 @@ module _ (ps : List ℕ) (h : plan-refusal ps ≡ 0) where
       subst (λ (qs : List ℕ). plan-bit qs c j ≡ address inner c j) (plan-clear ps h .2) (written-bit inner read-accepted few-cards few-links c j hc hj)
 
   read-hamming : (a b : ℕ) → a < inner .cards → b < inner .cards → plan-hamming ps a b ≡ hops inner a b
-  unfolding plan-hamming hamming
+  unfolding plan-hamming
   read-hamming a b ha hb =
       rw read-columns
-      (count-ext (λ j. differ (plan-bit ps a j) (plan-bit ps b j)) (λ j. differ (address inner a j) (address inner b j)) (range (column-count inner))
-      (λ j m. let l = range-in (column-count inner) j m in ap₂ differ (read-bit a j ha l) (read-bit b j hb l))
+      (hamming-ext (column-count inner) (plan-bit ps a) (plan-bit ps b) (address inner a) (address inner b) (λ j l. read-bit a j ha l) (λ j l. read-bit b j hb l)
       ∙ read-accepted .embedding a b ha hb)
 
   pub read-measured : Measured ps

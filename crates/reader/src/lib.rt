@@ -1,1 +1,4 @@
-// Plan files as they are read: definitions in specs/, their laws in proofs/.
+// Plan files: their layout (12), their content (13), a card's address. Definitions in specs/, laws in proofs/.
+pub mod layout;
+pub mod places;
+pub mod read;

@@ -1,0 +1,107 @@
+-- A frame on a plan that was read: its walk's answer is its arrival by the fewest links, or 15. Assumes nothing.
+use mathlib.Core.Path.{_≡_, refl, ap, ap₂, _∙_}
+use mathlib.Core.Bool.{true, false, _&&_, not, cond}
+use mathlib.Core.List.{List, _++_}
+use Prim.Native.Nat.{ℕ, suc, _+_, _*_, _-_}
+use native.Mathlib.Omega.{arith}
+use lib.Dec.{leb}
+use lib.ListN.{length, replicate}
+use borrow.Author.Tests.{eq-eqb, ne-eqb, leb-true}
+use Rattle.rack.specs.Hops.{hops}
+use Rattle.rack.proofs.Logic.{not-true-false, and-left, and-right}
+use Rattle.reader.specs.Plan.{plan-wiring}
+use Rattle.reader.specs.Promises.{Measured}
+use Rattle.reader.specs.Reading.{layout-refusal}
+use Rattle.reader.proofs.Promises.{read-measured}
+use Rattle.forwarder.specs.Forwarding.{walk}
+use Rattle.forwarder.specs.Calls.{most-traffic, walk-hops, can-take, step-refusal, walk-refusal, Walk-says, Frame, Arrived, Full, Can-take}
+use Rattle.forwarder.specs.Parts.{takes}
+use Rattle.forwarder.specs.declared.walk.Traffic.{Traffic}
+use Rattle.forwarder.specs.declared.walk.Walked.{Walked}
+use Rattle.forwarder.proofs.Frames.{both-cards}
+use Rattle.forwarder.proofs.Answers.{takes-fits}
+use Rattle.forwarder.proofs.Delivery.{Arrives, frame-arrives}
+
+module _ (ps : List ℕ) (a b : ℕ) (t : Traffic) (r : Walked) (old new : List ℕ) (s : Walk-says ps a b t r old new) (f : Frame ps a b old) where
+  measured : Measured ps
+  measured = read-measured ps (f .read)
+
+  abbrev fewest : ℕ
+  fewest = hops (plan-wiring ps) a b
+
+  delivered : Arrives ps measured a b (walk ps a b)
+  delivered = frame-arrives ps measured a b (f .from) (f .to)
+
+  met-long : length (walk ps a b .met) ≡ suc fewest
+  met-long = let d = delivered .1 in ap length (d .1) ∙ ap suc (d .3)
+
+  walked-hops : walk-hops (walk ps a b) ≡ fewest
+  unfolding walk-hops
+  walked-hops = omega (arith, met-long)
+
+  -- none of 1, 12 and 14 applies
+  number-is : r .number ≡ cond (not (can-take t (walk ps a b))) 15 0
+  unfolding walk-refusal layout-refusal
+  number-is =
+      let l : layout-refusal ps ≡ 0 = rw (measured .layout) refl in
+      s .number ∙ rw (eq-eqb (length old) 256 (f .room), eq-eqb (step-refusal ps a b) 0 (both-cards ps a b l (f .from) (f .to))) refl
+
+  pub walk-arrived : Can-take t fewest → Arrived ps a b t r new
+  unfolding can-take takes
+  walk-arrived (frame, total) =
+      let k : can-take t (walk ps a b) ≡ true = takes-fits t (walk ps a b .arrived) (walk-hops (walk ps a b)) frame (rw walked-hops total) in
+      arrived (rw k at number-is)
+    where
+      arrived : r .number ≡ 0 → Arrived ps a b t r new
+      arrived z =
+          let d = delivered .1 in
+          let e = eq-eqb (r .number) 0 z in
+          let one : r .arrived ≡ 1 = rw e at (s .arrived) ∙ delivered .0 in
+          let few : r .hops ≡ fewest = rw e at (s .hops) ∙ walked-hops in
+          let m : new ≡ walk ps a b .met ++ replicate (256 - length (walk ps a b .met)) 0 = rw e at (s .met) in
+          let left : 256 - length (walk ps a b .met) ≡ 255 - fewest = omega (arith, met-long) in
+          record {
+            number = z;
+            arrived = one;
+            fewest = few;
+            frames = omega (arith, s .frames);
+            total = s .total ∙ ap₂ (λ (x y : ℕ). t .hops + x * y) one few ∙ omega arith;
+            behind = d .0;
+            met = m ∙ ap₂ (λ (x : List ℕ) (y : ℕ). x ++ replicate y 0) (d .1) left;
+            path = d .2;
+            long = d .3;
+          }
+
+  -- a frame that arrives is counted, so the counts take it only where both tests pass
+  takes-both : can-take t (walk ps a b) ≡ true → Can-take t fewest
+  unfolding can-take
+  takes-both e =
+      let frame-test = leb (suc (t .frames)) most-traffic in
+      let total-test = leb (t .hops + walk-hops (walk ps a b)) most-traffic in
+      let both : (frame-test && total-test) ≡ true = rw (ne-eqb (walk ps a b .arrived) 0 (λ z. omega (arith, delivered .0))) at e in (
+        leb-true (suc (t .frames)) most-traffic (and-left frame-test total-test both),
+        rw walked-hops at (leb-true (t .hops + walk-hops (walk ps a b)) most-traffic (and-right frame-test total-test both)),
+      )
+
+  pub walk-full : (Can-take t fewest → ⊥) → Full t r old new
+  walk-full never =
+      let k : can-take t (walk ps a b) ≡ false = not-true-false (can-take t (walk ps a b)) (λ e. never (takes-both e)) in
+      full (rw k at number-is)
+    where
+      full : r .number ≡ 15 → Full t r old new
+      full z =
+          let e = ne-eqb (r .number) 0 (λ g. omega arith) in
+          let none : r .arrived ≡ 0 = rw e at (s .arrived) in
+          record {
+            number = z;
+            frames = omega (arith, s .frames);
+            total = s .total ∙ rw none (omega arith);
+            met = rw e at (s .met);
+          }
+
+-- what a walk answers, with what follows of it for a frame
+pub with-arrival : (ps : List ℕ) (a b : ℕ) (t : Traffic) (r : Walked) (old new : List ℕ) → Walk-says ps a b t r old new
+    → Walk-says ps a b t r old new
+    × ((Frame ps a b old → Can-take t (hops (plan-wiring ps) a b) → Arrived ps a b t r new)
+    × (Frame ps a b old → (Can-take t (hops (plan-wiring ps) a b) → ⊥) → Full t r old new))
+with-arrival ps a b t r old new s = (s, (walk-arrived ps a b t r old new s, walk-full ps a b t r old new s))

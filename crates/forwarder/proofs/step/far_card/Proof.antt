@@ -1,0 +1,47 @@
+-- The early returns are the cases of the far card's definition, by the ends read. Assumes nothing.
+use mathlib.Core.Path.{sym, _∙_}
+use native.Mathlib.Omega.{arith}
+use Rattle.rack.specs.Wiring.{link-at}
+use Rattle.reader.specs.Plan.{plan-wiring}
+use Rattle.forwarder.proofs.Searching.{far-first-out, far-second-out, far-second, far-first, far-none}
+use borrow.Author.Needs.{needs}
+use Rattle.forwarder.proofs.step.far_card.Statement.{statement}
+use Rattle.forwarder.proofs.step.far_card.Tie as tie
+
+first-end-requires : tie.Need-first-end-requires
+first-end-requires c κs = search needs
+
+second-end-requires : tie.Need-second-end-requires
+second-end-requires c κs = search needs
+
+returns : tie.Need-returns
+returns c = let a = c .before .before .before .before .args in sym (far-first-out (a .n) (a .a) (link-at (plan-wiring (a .plan .now)) (a .i)) (omega arith))
+
+returns-2 : tie.Need-returns-2
+returns-2 c = let a = c .before .before .before .before .before .args in sym (far-second-out (a .n) (a .a) (link-at (plan-wiring (a .plan .now)) (a .i)) (omega arith))
+
+returns-3 : tie.Need-returns-3
+returns-3 c =
+    let a = c .before .before .before .before .before .before .args in
+    c .before .before .before .second-end .ensures .0 ∙ sym (far-second (a .n) (a .a) (link-at (plan-wiring (a .plan .now)) (a .i)) (omega arith) (omega arith) (omega arith))
+
+returns-4 : tie.Need-returns-4
+returns-4 c =
+    let a = c .before .before .before .before .before .before .before .args in
+    c .before .before .before .before .before .first-end .ensures .0
+    ∙ sym (far-first (a .n) (a .a) (link-at (plan-wiring (a .plan .now)) (a .i)) (omega arith) (omega arith) (λ e. omega arith) (omega arith))
+
+returns-5 : tie.Need-returns-5
+returns-5 c = let a = c .before .before .before .before .before .before .before .args in sym (far-none (a .n) (a .a) (link-at (plan-wiring (a .plan .now)) (a .i)) (λ e. omega arith) (λ e. omega arith))
+
+pub far-card-spec : {M : Type 1} → statement M
+far-card-spec =
+    tie.close
+    (tie.spec
+    first-end-requires
+    second-end-requires
+    returns
+    returns-2
+    returns-3
+    returns-4
+    returns-5)

@@ -1,0 +1,50 @@
+-- A refusal is handed on with zeros, and else the answer is the step's. Assumes nothing.
+use native.Mathlib.Omega.{arith}
+use mathlib.Core.Path.{sym, _∙_}
+use Rattle.forwarder.proofs.Frames.{step-refused, step-answered}
+use borrow.Author.Needs.{needs}
+use Rattle.forwarder.proofs.step.step_frame.Statement.{statement}
+use Rattle.forwarder.proofs.step.step_frame.Tie as tie
+
+frame-sizes-requires : tie.Need-frame-sizes-requires
+frame-sizes-requires c κs = search needs
+
+no-link-requires : tie.Need-no-link-requires
+no-link-requires c κs = search needs
+
+returns : tie.Need-returns
+returns c = step-refused _ _ _ _ _ (c .before .before .before .frame-sizes .ensures .number) (λ e. omega arith) (c .no-link .ensures)
+
+ones-table-requires : tie.Need-ones-table-requires
+ones-table-requires c κs = search needs
+
+cast-step-between : tie.Need-cast-step-between
+cast-step-between c = search needs
+
+cast-step-between-2 : tie.Need-cast-step-between-2
+cast-step-between-2 c = search needs
+
+cast-step-between-3 : tie.Need-cast-step-between-3
+cast-step-between-3 c = search needs
+
+step-between-requires : tie.Need-step-between-requires
+step-between-requires c κs =
+    let s = c .before .before .before .before .before .before .before .frame-sizes in
+    (c .before .before .before .before .ones-table .ensures, s .ensures .sizes (omega arith), s .ensures .from (omega arith), s .ensures .to (omega arith))
+
+returns-2 : tie.Need-returns-2
+returns-2 c = step-answered _ _ _ _ (sym (c .before .before .before .before .before .before .before .before .frame-sizes .ensures .number) ∙ omega arith) (c .step-between .ensures)
+
+pub step-frame-spec : {M : Type 1} → statement M
+step-frame-spec =
+    tie.close
+    (tie.spec
+    frame-sizes-requires
+    no-link-requires
+    returns
+    ones-table-requires
+    cast-step-between
+    cast-step-between-2
+    cast-step-between-3
+    step-between-requires
+    returns-2)

@@ -1,0 +1,61 @@
+-- What the parts of a step and of a walk answer. Assumes nothing: these are definitions.
+use mathlib.Core.Path.{_≡_}
+use mathlib.Core.Bool.{Bool, _&&_, _||_, cond}
+use mathlib.Core.List.{List, _++_}
+use Prim.Native.Nat.{ℕ, suc, _+_, _*_, _-_, _≤_, _<_}
+use lib.Dec.{ltb, leb, eqb}
+use lib.ListN.{length, replicate}
+use Rattle.rack.specs.Wiring.{Link, touches, other-end}
+use Rattle.reader.specs.Reading.{Laid-out}
+use Rattle.reader.specs.declared.layout.Sizes.{Sizes}
+use Rattle.forwarder.specs.Forwarding.{Walk}
+use Rattle.forwarder.specs.Calls.{step-refusal, most-traffic, walk-hops}
+use Rattle.forwarder.specs.declared.step.Stepped.{Stepped}
+use Rattle.forwarder.specs.declared.walk.Traffic.{Traffic}
+use Rattle.forwarder.specs.declared.walk.Walked.{Walked}
+use Rattle.forwarder.specs.declared.walk.Route.{Route}
+
+-- the other end of a link where it is one of card a's, between two of the n cards; else n
+unfoldable pub far-card : (n a : ℕ) → Link → ℕ
+far-card n a l = cond (ltb (l .first) n && ltb (l .second) n && touches a l) (other-end a l) n
+
+-- a step's answer that is not over a link
+pub record No-link (x o : ℕ) (r : Stepped) : Type 0 where
+  pub number : r .number ≡ x
+  pub outcome : r .outcome ≡ o
+  pub link : r .link ≡ 0
+  pub far : r .far ≡ 0
+
+-- 12, 14, or the sizes of a plan that has both cards
+pub record Frame-sizes (ps : List ℕ) (a b : ℕ) (r : Sizes) : Type 0 where
+  pub number : r .number ≡ step-refusal ps a b
+  pub sizes : r .number ≡ 0 → Laid-out ps (r .cards) (r .links) (r .columns)
+  pub from : r .number ≡ 0 → a < r .cards
+  pub to : r .number ≡ 0 → b < r .cards
+
+-- how a walk ended, its hops, and the cards met with zeros behind them
+pub record Route-is (v : Walk) (r : Route) : Type 0 where
+  pub arrived : r .arrived ≡ v .arrived
+  pub ended : r .arrived ≤ 1
+  pub hops : r .hops ≡ walk-hops v
+  pub room : length (r .met) ≡ 256
+  pub met : r .met ≡ v .met ++ replicate (256 - length (v .met)) 0
+
+-- a refused walk: zeros, and the counts as they were
+pub record Unwalked (number : ℕ) (t : Traffic) (r : Walked) : Type 0 where
+  pub refused : r .number ≡ number
+  pub arrived : r .arrived ≡ 0
+  pub hops : r .hops ≡ 0
+  pub traffic : r .traffic ≡ t
+
+-- the counts take a walk that ended so: it is stuck, or one frame more and its hops pass no limit
+unfoldable pub takes : Traffic → (arrived hops : ℕ) → Bool
+takes t o h = eqb o 0 || (leb (suc (t .frames)) most-traffic && leb (t .hops + h) most-traffic)
+
+-- a walk's answer: its counts raised where it arrived, or 15 and zeros with the counts as they were
+pub record Counted (t : Traffic) (o h : ℕ) (r : Walked) : Type 0 where
+  pub number : r .number ≡ cond (takes t o h) 0 15
+  pub arrived : r .arrived ≡ cond (eqb (r .number) 0) o 0
+  pub hops : r .hops ≡ cond (eqb (r .number) 0) h 0
+  pub frames : r .traffic .frames ≡ t .frames + r .arrived
+  pub total : r .traffic .hops ≡ t .hops + r .arrived * r .hops

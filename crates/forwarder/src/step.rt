@@ -1,0 +1,160 @@
+// One step of a frame, on a plan's own bytes.
+ghost use mathlib.Core.Path.{_≡_};
+ghost use mathlib.Core.Bool.{_&&_};
+ghost use Prim.Native.Nat.{_<_};
+ghost use lib.Dec.{ltb};
+ghost use Rattle.rack.specs.Ones.{Counts};
+ghost use Rattle.rack.specs.Wiring.{link-at};
+ghost use Rattle.reader.specs.Plan.{plan-hamming, plan-wiring};
+ghost use Rattle.reader.specs.Reading.{Laid-out};
+ghost use Rattle.forwarder.specs.Forwarding.{step};
+ghost use Rattle.forwarder.specs.Calls.{Step-is, Step-says};
+ghost use Rattle.forwarder.specs.Parts.{far-card, Frame-sizes, No-link};
+use rack::bytes::first_end;
+use rack::bytes::second_end;
+use rack::places::ones_table;
+use reader::layout::Sizes;
+use reader::layout::plan_layout;
+use reader::places::plan_hamming;
+
+// A refusal's number, 0 for none; the outcome: 0 stuck, 1 arrived, 2 over a link to its far card.
+pub struct Stepped {
+    pub number: u32,
+    pub outcome: u32,
+    pub link: u32,
+    pub far: u32,
+}
+
+// The card at the other end of link `i` of `m` where it is one of card `a`'s, between two of the `n` cards; else `n`.
+fn far_card(plan: &[u8], n: usize, m: usize, k: usize, i: usize, a: usize) -> usize
+    requires { ⌜ Laid-out (now plan) n m k × (i < m) ⌝ }
+    ensures { λ r. ⌜ r ≡ far-card n a (link-at (plan-wiring (now (plan .entry))) i) ⌝ }
+{
+    let p = first_end(plan, 6, m, i);
+    let q = second_end(plan, 6, m, i);
+    if n <= p {
+        return n;
+    }
+    if n <= q {
+        return n;
+    }
+    if p == a {
+        return q;
+    }
+    if q == a {
+        return p;
+    }
+    n
+}
+
+// `c` is a card whose address differs from that of card `b` in fewer than `left` places.
+fn is_nearer(
+    ones: &[u8; 256],
+    plan: &[u8],
+    n: usize,
+    m: usize,
+    k: usize,
+    c: usize,
+    b: usize,
+    left: u32,
+) -> bool
+    requires { ⌜ Counts (now ones) × Laid-out (now plan) n m k × (b < n) ⌝ }
+    ensures { λ r. ⌜ r ≡ (ltb c n && ltb (plan-hamming (now (plan .entry)) c b) left) ⌝ }
+{
+    if n <= c {
+        return false;
+    }
+    plan_hamming(ones, plan, n, m, k, c, b) < left
+}
+
+// An answer that is not over a link.
+fn no_link(number: u32, outcome: u32) -> Stepped
+    ensures { λ r. ⌜ No-link number outcome r ⌝ }
+{
+    Stepped {
+        number: number,
+        outcome: outcome,
+        link: 0,
+        far: 0,
+    }
+}
+
+// The step from card `a` towards card `b`: over the first link that leads nearer.
+pub fn step_between(
+    ones: &[u8; 256],
+    plan: &[u8],
+    n: usize,
+    m: usize,
+    k: usize,
+    a: usize,
+    b: usize,
+) -> Stepped
+    requires { ⌜ Counts (now ones) × Laid-out (now plan) n m k × (a < n) × (b < n) ⌝ }
+    ensures { λ r. ⌜ Step-is (step (now (plan .entry)) a b) r ⌝ }
+{
+    if a == b {
+        return no_link(0, 1);
+    }
+    let left = plan_hamming(ones, plan, n, m, k, a, b);
+    let mut i: usize = 0;
+    while i < m {
+        let c = far_card(plan, n, m, k, i, a);
+        if is_nearer(ones, plan, n, m, k, c, b, left) {
+            return Stepped {
+                number: 0,
+                outcome: 2,
+                link: i as u32,
+                far: c as u32,
+            };
+        }
+        i += 1;
+    }
+    no_link(0, 0)
+}
+
+// The sizes of a plan that has both cards: 12, 14.
+pub fn frame_sizes(plan: &[u8], from: u32, goal: u32) -> Sizes
+    ensures { λ r. ⌜ Frame-sizes (now (plan .entry)) from goal r ⌝ }
+{
+    let sizes = plan_layout(plan);
+    if sizes.number != 0 {
+        return sizes;
+    }
+    if sizes.cards <= from {
+        return Sizes {
+            number: 14,
+            cards: 0,
+            links: 0,
+            columns: 0,
+        };
+    }
+    if sizes.cards <= goal {
+        return Sizes {
+            number: 14,
+            cards: 0,
+            links: 0,
+            columns: 0,
+        };
+    }
+    sizes
+}
+
+// A step of a frame: 12, 14.
+pub fn step_frame(plan: &[u8], from: u32, goal: u32) -> Stepped
+    ensures { λ r. ⌜ Step-says (now (plan .entry)) from goal r ⌝ }
+{
+    let sizes = frame_sizes(plan, from, goal);
+    if sizes.number != 0 {
+        return no_link(sizes.number, 0);
+    }
+    let ones = ones_table();
+    step_between(
+        &ones,
+        plan,
+        sizes.cards as usize,
+        sizes.links as usize,
+        sizes.columns as usize,
+        from as usize,
+        goal as usize,
+    )
+}

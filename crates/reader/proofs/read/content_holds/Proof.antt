@@ -1,0 +1,81 @@
+-- The planner's answer for the wiring file inside, its length and its bytes decide. Assumes nothing.
+use Rattle.reader.proofs.InnerFile.{inner-lent}
+use Rattle.reader.proofs.ReadAnswer.{content-room}
+use mathlib.Core.Path.{refl, sym}
+use Prim.Native.Nat.{ℕ}
+use native.Mathlib.Omega.{arith}
+use lib.ListN.{length-replicate}
+use Rattle.reader.proofs.Plan.{layout-facts}
+use Rattle.reader.proofs.ReadAnswer.{content-refused, content-other-length, content-as-compared}
+use borrow.Author.Needs.{needs}
+use Rattle.reader.proofs.read.content_holds.Statement.{statement}
+use Rattle.reader.proofs.read.content_holds.Tie as tie
+
+mul-inner-file : tie.Need-mul-inner-file
+mul-inner-file c = omega (arith, layout-facts _ (c .before .pre .0) .links)
+
+slice-aggregate-inner-file : tie.Need-slice-aggregate-inner-file
+slice-aggregate-inner-file c = search needs
+
+inner-file-requires : tie.Need-inner-file-requires
+inner-file-requires c κs = let z = layout-facts _ (c .before .before .pre .0) in (omega (arith, z .long), omega (arith, z .links), refl)
+
+mul-size : tie.Need-mul-size
+mul-size c = omega (arith, layout-facts _ (c .before .before .before .before .pre .0) .links)
+
+add-size : tie.Need-add-size
+add-size c = omega (arith, layout-facts _ (c .before .before .before .before .pre .0) .links)
+
+sub-write-plan : tie.Need-sub-write-plan
+sub-write-plan c = search needs
+
+part-write-plan-start : tie.Need-part-write-plan-start
+part-write-plan-start c = search needs
+
+part-write-plan-end : tie.Need-part-write-plan-end
+part-write-plan-end c = omega (arith, layout-facts _ (c .before .before .before .before .before .pre .0) .links, c .before .before .inner-file .kept .1 .1 .0)
+
+slice-aggregate-write-plan : tie.Need-slice-aggregate-write-plan
+slice-aggregate-write-plan c = search needs
+
+write-plan-requires : tie.Need-write-plan-requires
+write-plan-requires c κs = search needs
+
+returns : tie.Need-returns
+returns c = sym (content-refused (c .before .before .before .before .before .before .before .before .before .before .before .args .plan .now) _ (c .before .before .before .before .before .before .before .before .before .before .before .pre .0) (inner-lent _ _ _ (c .before .before .before .before .before .before .before .before .before .before .before .pre .1) (c .before .before .before .before .before .before .before .before .inner-file .ensures)) (c .before .before .before .write-plan .result) _ _ (length-replicate {A = ℕ} 16390 0) (c .before .before .before .write-plan .ensures) (c .if1 .taken))
+
+cast-if2 : tie.Need-cast-if2
+cast-if2 c = search needs
+
+returns-2 : tie.Need-returns-2
+returns-2 c = sym (content-other-length (c .before .before .before .before .before .before .before .before .before .before .before .before .before .args .plan .now) _ (c .before .before .before .before .before .before .before .before .before .before .before .before .before .pre .0) (inner-lent _ _ _ (c .before .before .before .before .before .before .before .before .before .before .before .before .before .pre .1) (c .before .before .before .before .before .before .before .before .before .before .inner-file .ensures)) (c .before .before .before .before .before .write-plan .result) _ _ (length-replicate {A = ℕ} 16390 0) (c .before .before .before .before .before .write-plan .ensures) (c .before .before .if1 .left) (c .if2 .taken))
+
+slice-aggregate-begins-with : tie.Need-slice-aggregate-begins-with
+slice-aggregate-begins-with c = search needs
+
+begins-with-requires : tie.Need-begins-with-requires
+begins-with-requires c κs = content-room (c .before .before .before .before .before .before .before .before .before .before .before .before .before .before .args .plan .now) _ (c .before .before .before .before .before .before .before .before .before .before .before .before .before .before .pre .0) (inner-lent _ _ _ (c .before .before .before .before .before .before .before .before .before .before .before .before .before .before .pre .1) (c .before .before .before .before .before .before .before .before .before .before .before .inner-file .ensures)) (c .before .before .before .before .before .before .write-plan .result) _ _ (length-replicate {A = ℕ} 16390 0) (c .before .before .before .before .before .before .write-plan .ensures) (c .before .before .before .if1 .left) (c .before .if2 .left)
+
+returns-3 : tie.Need-returns-3
+returns-3 c = sym (content-as-compared (c .before .before .before .before .before .before .before .before .before .before .before .before .before .before .before .args .plan .now) _ (c .before .before .before .before .before .before .before .before .before .before .before .before .before .before .before .pre .0) (inner-lent _ _ _ (c .before .before .before .before .before .before .before .before .before .before .before .before .before .before .before .pre .1) (c .before .before .before .before .before .before .before .before .before .before .before .before .inner-file .ensures)) (c .before .before .before .before .before .before .before .write-plan .result) _ _ (length-replicate {A = ℕ} 16390 0) (c .before .before .before .before .before .before .before .write-plan .ensures) (c .before .before .before .before .if1 .left) (c .before .before .if2 .left) _ (c .begins-with .ensures))
+
+pub content-holds-spec : {M : Type 1} → statement M
+content-holds-spec =
+    tie.close
+    (tie.spec
+    mul-inner-file
+    slice-aggregate-inner-file
+    inner-file-requires
+    mul-size
+    add-size
+    sub-write-plan
+    part-write-plan-start
+    part-write-plan-end
+    slice-aggregate-write-plan
+    write-plan-requires
+    returns
+    cast-if2
+    returns-2
+    slice-aggregate-begins-with
+    begins-with-requires
+    returns-3)

@@ -1,0 +1,24 @@
+-- The two parts are appended to zeros. Assumes nothing.
+use mathlib.Core.Path.{ap}
+use Prim.Native.Nat.{ℕ}
+use native.Mathlib.Omega.{arith}
+use lib.ListN.{length, length-replicate}
+use Rattle.reader.proofs.InnerFile.{inner-copied}
+use borrow.Author.Needs.{needs}
+use Rattle.reader.proofs.read.inner_file.Statement.{statement}
+use Rattle.reader.proofs.read.inner_file.Tie as tie
+
+copy-part-requires : tie.Need-copy-part-requires
+copy-part-requires c κs = let s = c .before .before .before in (omega (arith, s .pre .0), omega (arith, ap length (s .pre .2), length-replicate {A = ℕ} 8196 0))
+
+copy-part-requires-2 : tie.Need-copy-part-requires-2
+copy-part-requires-2 c κs = let s = c .before .before .before .before .before .before .before in (s .pre .0, omega (arith, s .pre .1, c .before .before .before .copy-part .kept .1 .1 .1 .0, ap length (s .pre .2), length-replicate {A = ℕ} 8196 0))
+
+same-length : tie.Need-same-length
+same-length c = search needs
+
+returns : tie.Need-returns
+returns c = let s = c .before .before .before .before .before .before .before .before .before .before in inner-copied (s .args .plan .now) (s .args .ends) _ _ _ (s .pre .0) (s .pre .2) (c .before .before .before .before .before .before .copy-part .ensures) (c .before .before .copy-part2 .ensures)
+
+pub inner-file-spec : {M : Type 1} → statement M
+inner-file-spec = tie.close (tie.spec copy-part-requires copy-part-requires-2 same-length returns)

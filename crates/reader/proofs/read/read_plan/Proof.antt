@@ -1,0 +1,36 @@
+-- 12 comes from the layout, 13 from the content; a plan that passes both is measured. Assumes nothing.
+use mathlib.Core.Path.{refl, sym, _∙_}
+use Rattle.reader.proofs.Reading.{says-laid-out}
+use Rattle.reader.proofs.ReadAnswer.{read-says-layout, layout-passed, read-says-sizes, read-says-content, read-promise}
+use borrow.Author.Needs.{needs}
+use Rattle.reader.proofs.read.read_plan.Statement.{statement}
+use Rattle.reader.proofs.read.read_plan.Tie as tie
+
+plan-layout-requires : tie.Need-plan-layout-requires
+plan-layout-requires c κs = search needs
+
+returns : tie.Need-returns
+returns c = let says = read-says-layout (c .before .before .before .before .args .plan .now) (c .before .before .plan-layout .result) (c .before .before .plan-layout .ensures) (c .if1 .taken) in (says, read-promise _ _ says)
+
+cast-content-holds : tie.Need-cast-content-holds
+cast-content-holds c = search needs
+
+content-holds-requires : tie.Need-content-holds-requires
+content-holds-requires c κs = (layout-passed _ (c .before .before .before .plan-layout .result) (c .before .before .before .plan-layout .ensures) (c .before .if1 .left), says-laid-out _ (c .before .before .before .plan-layout .result) (c .before .before .before .plan-layout .ensures) (c .before .if1 .left) .links)
+
+returns-2 : tie.Need-returns-2
+returns-2 c = let says = read-says-sizes (c .before .before .before .before .before .before .before .args .plan .now) (c .before .before .before .before .before .plan-layout .result) (c .before .before .before .before .before .plan-layout .ensures) (c .before .before .before .if1 .left) (sym (c .before .content-holds .ensures) ∙ c .if2 .taken) in (says, read-promise _ _ says)
+
+returns-3 : tie.Need-returns-3
+returns-3 c = let says = read-says-content (c .before .before .before .before .before .before .before .args .plan .now) _ (layout-passed _ (c .before .before .before .before .before .plan-layout .result) (c .before .before .before .before .before .plan-layout .ensures) (c .before .before .before .if1 .left)) (sym (c .before .content-holds .ensures) ∙ c .if2 .left) (record { number = refl; cards = refl; links = refl; columns = refl }) in (says, read-promise _ _ says)
+
+pub read-plan-spec : {M : Type 1} → statement M
+read-plan-spec =
+    tie.close
+    (tie.spec
+    plan-layout-requires
+    returns
+    cast-content-holds
+    content-holds-requires
+    returns-2
+    returns-3)

@@ -1,0 +1,58 @@
+// A plan's layout: refusal 12, and the three sizes.
+ghost use mathlib.Core.List.{List};
+ghost use Prim.Native.Nat.{ℕ};
+ghost use Rattle.reader.specs.Reading.{Layout-says, Sizes-say};
+use rack::bytes::number_at;
+
+// A refusal's number, 0 for none, and with 0 a plan's sizes.
+pub struct Sizes {
+    pub number: u32,
+    pub cards: u32,
+    pub links: u32,
+    pub columns: u32,
+}
+
+// 12 and zeros.
+fn no_layout() -> Sizes
+    ensures { λ r. ⌜ ((ps : List ℕ) → Sizes-say ps 12 r) ⌝ }
+{
+    Sizes {
+        number: 12,
+        cards: 0,
+        links: 0,
+        columns: 0,
+    }
+}
+
+// The sizes of a plan, or 12.
+pub fn plan_layout(plan: &[u8]) -> Sizes
+    ensures { λ r. ⌜ Layout-says (now (plan .entry)) r ⌝ }
+{
+    if plan.len() < 6 {
+        return no_layout();
+    }
+    let n = number_at(plan, 0);
+    let m = number_at(plan, 2);
+    let k = number_at(plan, 4);
+    if n == 0 {
+        return no_layout();
+    }
+    if 256 < n {
+        return no_layout();
+    }
+    if 2048 < m {
+        return no_layout();
+    }
+    if 255 < k {
+        return no_layout();
+    }
+    if plan.len() != 6 + 4 * m + n * ((k + 7) / 8) {
+        return no_layout();
+    }
+    Sizes {
+        number: 0,
+        cards: n as u32,
+        links: m as u32,
+        columns: k as u32,
+    }
+}
