@@ -12,7 +12,7 @@ ghost use Rattle.forwarder.specs.Calls.{Step-is, Step-says};
 ghost use Rattle.forwarder.specs.Parts.{far-card, Frame-sizes, No-link};
 use rack::bytes::first_end;
 use rack::bytes::second_end;
-use rack::places::ones_table;
+use rack::ones::ones_table;
 use reader::layout::Sizes;
 use reader::layout::plan_layout;
 use reader::places::plan_hamming;

@@ -11,7 +11,7 @@ ghost use Rattle.forwarder.specs.Calls.{Arrived, Can-take, Frame, Full, 
 ghost use Rattle.forwarder.specs.Parts.{Counted, Route-is, Unwalked};
 use crate::step::frame_sizes;
 use crate::step::step_between;
-use rack::places::ones_table;
+use rack::ones::ones_table;
 
 // Frames that arrived, and their hops.
 pub struct Traffic {

@@ -42,8 +42,8 @@ module _ (bs : List ℕ) (r : Answer) (ws₀ ws h₀ h : List ℕ) (asked : Aske
 
   -- an accepted file
   module _ (z : r .number ≡ 0) where
-    columns-told : r .value ≡ column-count w
-    columns-told = says .answer .value ∙ rw (eq-eqb (planning-refusal bs (length ws₀) (length h₀) .number) 0 (sym (says .answer .number) ∙ z)) refl
+    columns-answered : r .value ≡ column-count w
+    columns-answered = says .answer .value ∙ rw (eq-eqb (planning-refusal bs (length ws₀) (length h₀) .number) 0 (sym (says .answer .number) ∙ z)) refl
 
     few-cards : w .cards ≤ 256
     few-cards = accepted-few bs (sym file-number ∙ z)
@@ -66,7 +66,7 @@ module _ (bs : List ℕ) (r : Answer) (ws₀ ws h₀ h : List ℕ) (asked : Aske
     words-embed : Embedding w (r .value) (word-bit ws)
     unfolding hamming Addresses-embed
     words-embed a b ha hb =
-        rw columns-told
+        rw columns-answered
         (count-ext (λ j. differ (word-bit ws a j) (word-bit ws b j)) (λ j. differ (address w a j) (address w b j)) (range (column-count w))
         (λ j i. let l = range-in (column-count w) j i in ap₂ differ (word-bits a j ha l) (word-bits b j hb l))
         ∙ addresses-embed w (sym rack-number ∙ z) a b ha hb)

@@ -18,7 +18,7 @@ use links::sizes_fault;
 use order::link_order;
 use pairs::pairs_measure;
 use rack::bytes::number_at;
-use rack::places::ones_table;
+use rack::ones::ones_table;
 use reach::reach_fault;
 use write::put_plan;
 

@@ -1,9 +1,9 @@
 -- All promises, each proved: what a reader looks for first. Assumes nothing.
-use Rattle.rack.specs.Promises.{Hops-fewest, Connected-paths, No-ties, Card-zero-zeros, Addresses-embed, No-addresses, Embedding-unique, Columns-once, Few-columns, File-as-wiring}
+use Rattle.rack.specs.Promises.{Hops-fewest, Connected-paths, No-ties, Card-zero-zeros, Addresses-embed, No-addresses, Embedding-unique, Columns-once, Few-columns, Sizes-in-range, Links-join, Odd-loop, File-as-wiring}
 use Rattle.rack.proofs.Promises as rack
-use Rattle.reader.specs.Promises.{Read-exactly, Reader-promise}
+use Rattle.reader.specs.Promises.{Read-exactly, Calls-agree, Layout-in-range, Address-fits, Reader-promise}
 use Rattle.reader.proofs.Promises as reader
-use Rattle.forwarder.specs.Promises.{Step-first, Step-local, Walk-ends, Frame-arrives}
+use Rattle.forwarder.specs.Promises.{Step-first, Step-local, Step-call-local, Walk-ends, Frame-arrives}
 use Rattle.forwarder.proofs.Promises as forwarder
 
 -- hops are the fewest links
@@ -42,6 +42,18 @@ columns-once = rack.columns-once
 pub few-columns : Few-columns
 few-columns = rack.few-columns
 
+-- 2 to 5 by the ranges of the sizes
+pub sizes-in-range : Sizes-in-range
+sizes-in-range = rack.sizes-in-range
+
+-- 6 to 8 by the links
+pub links-join : Links-join
+links-join = rack.links-join
+
+-- 10 by a link with level ends
+pub odd-loop : Odd-loop
+odd-loop = rack.odd-loop
+
 -- a well-formed file stands for its wiring
 pub file-as-wiring : File-as-wiring
 file-as-wiring = rack.file-as-wiring
@@ -49,6 +61,18 @@ file-as-wiring = rack.file-as-wiring
 -- a plan is read exactly if the planner writes it
 pub read-exactly : Read-exactly
 read-exactly = reader.read-exactly
+
+-- the same of what the two calls answer and leave
+pub calls-agree : Calls-agree
+calls-agree = reader.calls-agree
+
+-- 12 by the ranges of the sizes
+pub layout-in-range : Layout-in-range
+layout-in-range = reader.layout-in-range
+
+-- an address has as few bytes as hold its bits
+pub address-fits : Address-fits
+address-fits = reader.address-fits
 
 -- what the forwarder may lean on
 pub reader-promise : Reader-promise
@@ -61,6 +85,10 @@ step-first = forwarder.step-first
 -- a step depends on its cards, the first card's links and their addresses
 pub step-local : Step-local
 step-local = forwarder.step-local
+
+-- so does the call's answer
+pub step-call-local : Step-call-local
+step-call-local = forwarder.step-call-local
 
 -- a walk ends by itself
 pub walk-ends : Walk-ends

@@ -1,9 +1,9 @@
--- Document 01's cases P1 to P10 as rows of one table, and what a row claims. Assumes nothing: these are definitions.
+-- Document 01's cases P1 to P10 and a few more as rows of one table, and what a row claims. Assumes nothing: these are definitions.
 use mathlib.Core.Bool.{Bool, _&&_}
 use mathlib.Core.List.{List, [], _∷_}
 use Prim.Native.Nat.{ℕ, _+_, _*_}
 use lib.Dec.{eqb}
-use lib.ListN.{length, set}
+use lib.ListN.{length, take, set}
 use Rattle.rack.specs.Lists.{one, all, tabulate, same}
 use Rattle.rack.specs.Wiring.{Link, Wiring, link, wiring}
 use Rattle.rack.specs.WiringFile.{file-bytes, file-wiring, file-refusal}
@@ -55,7 +55,7 @@ case n ls cs = record { cards = n; links = ls; change = λ ps. ps; claims = cs }
 unfoldable pub ring-of-four : List Link
 ring-of-four = link 0 1 ∷ link 1 2 ∷ link 2 3 ∷ link 3 0 ∷ []
 
--- P1 to P10, in their order; in P10 the address byte of card 2 is made 0
+-- P1 to P10, in their order; in P10 the address byte of card 2 is made 0. Then 3, 6, 7, and 12 of a plan without its last byte
 unfoldable pub cases : List Case
 cases =
     case 1 [] (refused 0 0 ∷ addresses ([] ∷ []) ∷ plan-size 6 ∷ [])
@@ -73,4 +73,8 @@ cases =
     ∷ case 5 (link 0 2 ∷ link 0 3 ∷ link 0 4 ∷ link 1 2 ∷ link 1 3 ∷ link 1 4 ∷ []) (refused 11 0 ∷ [])
     ∷ case 4 ring-of-four (walks 0 2 (0 ∷ 1 ∷ 2 ∷ []) ∷ [])
     ∷ record { cards = 4; links = ring-of-four; change = λ ps. set ps (6 + 4 * 4 + 2) 0; claims = read-as 13 ∷ stuck 0 2 ∷ [] }
+    ∷ case 0 [] (refused 3 0 ∷ [])
+    ∷ case 2 (link 0 1 ∷ link 0 2 ∷ []) (refused 6 1 ∷ [])
+    ∷ case 2 (link 0 1 ∷ link 1 1 ∷ []) (refused 7 1 ∷ [])
+    ∷ record { cards = 4; links = ring-of-four; change = take 25; claims = read-as 12 ∷ [] }
     ∷ []

@@ -15,16 +15,21 @@ use Rattle.rack.proofs.Hops.{hops-path, hops-sym, hops-triangle, connec
 use Rattle.rack.proofs.Crossing.{Rack, hops-one}
 use Rattle.rack.proofs.Refusals.{cond-zero, lowest-fault-clear}
 
+pub parity-clear : (w : Wiring) → parity-refusal w .number ≡ 0 → (i : ℕ) → i < link-count w → hops w 0 (link-at w i .first) ≢ hops w 0 (link-at w i .second)
+unfolding parity-refusal
+parity-clear w h i l =
+    let p = hops w 0 (link-at w i .first) in
+    let q = hops w 0 (link-at w i .second) in
+    eqb-false p q (cond-zero (eqb p q) 10 0 (λ e. omega arith) (lowest-fault-clear (link-count w) (λ i. cond (eqb (hops w 0 (link-at w i .first)) (hops w 0 (link-at w i .second))) 10 0) h i l) .0)
+
 module _ (w : Wiring) (rack : Rack w) (even : parity-refusal w .number ≡ 0) where
   levels-differ : (a b : ℕ) → linked w a b ≡ true → hops w 0 a ≢ hops w 0 b
-  unfolding parity-refusal
   levels-differ a b e = go (linked-link w a b e)
     where
       link-levels : (l : Link) → In l (w .links) → hops w 0 (l .first) ≢ hops w 0 (l .second)
       link-levels l m =
           let r = getD-in (w .links) (link 0 0) l m in
-          let z = lowest-fault-clear (link-count w) (λ i. cond (eqb (hops w 0 (link-at w i .first)) (hops w 0 (link-at w i .second))) 10 0) even (r .0) (r .1) in
-          rw (r .2) at (eqb-false (hops w 0 (link-at w (r .0) .first)) (hops w 0 (link-at w (r .0) .second)) (cond-zero (eqb (hops w 0 (link-at w (r .0) .first)) (hops w 0 (link-at w (r .0) .second))) 10 0 (λ e. omega arith) z .0))
+          rw (r .2) at (parity-clear w even (r .0) (r .1))
 
       go : (l : Link) × In l (w .links) × Ends a b l → hops w 0 a ≢ hops w 0 b
       go (l, m, inl e) f = link-levels l m (ap (hops w 0) (e .0) ∙ f ∙ sym (ap (hops w 0) (e .1)))

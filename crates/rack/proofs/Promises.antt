@@ -7,23 +7,24 @@ use native.Mathlib.Omega.{arith}
 use lib.Dec.{leb, eqb}
 use lib.ListN.{length}
 use borrow.Author.Tests.{le-leb, eq-eqb}
+use Rattle.rack.specs.Wiring.{link-count}
 use Rattle.rack.specs.Hops.{hops, is-path}
 use Rattle.rack.specs.Columns.{same-column, columns, column-count, address, Embedding}
-use Rattle.rack.specs.Refusals.{refusal, links-refusal, well-formed, rack-refusal}
+use Rattle.rack.specs.Refusals.{refusal, link-fault, links-refusal, well-formed, rack-refusal}
 use Rattle.rack.specs.WiringFile.{file-wiring, sizes-fault, form-refusal, file-refusal}
 use Rattle.rack.specs.Embeddings.{times}
-use Rattle.rack.specs.Promises.{Hops-fewest, Connected-paths, No-ties, Card-zero-zeros, Addresses-embed, No-addresses, Embedding-unique, Columns-once, Few-columns, File-as-wiring}
+use Rattle.rack.specs.Promises.{Hops-fewest, Connected-paths, No-ties, Card-zero-zeros, Addresses-embed, No-addresses, Embedding-unique, Columns-once, Few-columns, Sizes-in-range, Links-join, Odd-loop, File-as-wiring}
 use Rattle.rack.proofs.Logic.{not-true-false, and-both}
 use Rattle.rack.proofs.Lists.{count-at-most-one}
 use Rattle.rack.proofs.Paths.{path-cards, cards-path}
 use Rattle.rack.proofs.Hops.{hops-le, hops-path, path-hops, path-below, connected-all, zero-connected}
 use Rattle.rack.proofs.Columns.{same-column-eq, columns-distinct, address-zero}
 use Rattle.rack.proofs.Uniqueness.{reduced-count, reduced-length}
-use Rattle.rack.proofs.Refusals.{or-else-clear, or-else-second, well-formed-rack}
-use Rattle.rack.proofs.Acceptance.{accepted-embedding, embedding-accepted, connected-number}
+use Rattle.rack.proofs.Refusals.{or-else-clear, or-else-second, lowest-fault-none, lowest-fault-clear, link-fault-clear, link-fault-few, clear-link-fault, well-formed-rack}
+use Rattle.rack.proofs.Acceptance.{accepted-embedding, embedding-accepted, connected-number, ten-level, level-ten}
 use Rattle.rack.proofs.FewColumns
 use Rattle.rack.proofs.Parity.{no-tie}
-use Rattle.rack.proofs.WiringFile.{wiring-at-cards, sizes-clear, file-wiring-bytes}
+use Rattle.rack.proofs.WiringFile.{wiring-at-cards, sizes-clear, sized-clear, file-wiring-bytes}
 
 pub hops-fewest : Hops-fewest
 unfolding Hops-fewest
@@ -76,6 +77,26 @@ columns-once w c = count-at-most-one (same-column c) (λ d e h k. sym (same-colu
 pub few-columns : Few-columns
 unfolding Few-columns
 few-columns w f h = let a = accepted-embedding w h in omega (arith, FewColumns.few-columns w (well-formed-rack w f (a .0)) (a .1))
+
+pub sizes-in-range : Sizes-in-range
+unfolding Sizes-in-range
+sizes-in-range bs = (
+  (λ h. let z = sizes-clear bs h in (z .some, z .cards, z .links, z .long)),
+  λ z. sized-clear bs (record { head = omega (arith, z .3); some = z .0; cards = z .1; links = z .2; long = z .3 }),
+)
+
+pub links-join : Links-join
+unfolding Links-join links-refusal
+links-join w = (
+  (λ h i l.
+      let z = lowest-fault-clear (link-count w) (link-fault w) h i l in
+      let j = link-fault-clear w i z in (j .0, j .1, j .2, link-fault-few w i z)),
+  λ each. rw (lowest-fault-none (link-count w) (link-fault w) (λ i l. let j = each i l in clear-link-fault w i (j .0, j .1, j .2) (j .3))) refl,
+)
+
+pub odd-loop : Odd-loop
+unfolding Odd-loop
+odd-loop w c = (ten-level w c, level-ten w c)
 
 pub file-as-wiring : File-as-wiring
 unfolding File-as-wiring form-refusal file-refusal well-formed

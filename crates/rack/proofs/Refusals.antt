@@ -5,12 +5,13 @@ use mathlib.Core.Logic.{_⊎_, inl, inr, _≢_}
 use Prim.Native.Nat.{ℕ, _≤_, _<_}
 use native.Mathlib.Omega.{arith}
 use lib.Dec.{leb, eqb}
-use borrow.Author.Tests.{eqb-true, eqb-false, eq-eqb, ne-eqb, lt-ltb, le-ltb, leb-true, leb-false, not-true, not-false}
-use Rattle.rack.specs.Lists.{all, range, lowest}
-use Rattle.rack.specs.Wiring.{Link, Wiring, link, link-count, link-at}
+use lib.ListN.{take}
+use borrow.Author.Tests.{eqb-true, eqb-false, eq-eqb, ne-eqb, lt-ltb, le-ltb, leb-true, leb-false, lt-leb, not-true, not-false}
+use Rattle.rack.specs.Lists.{all, count, range, lowest}
+use Rattle.rack.specs.Wiring.{Link, Wiring, link, link-count, link-at, joins}
 use Rattle.rack.specs.Hops.{hops, connected}
 use Rattle.rack.specs.Columns.{hamming, Embedding, embeds}
-use Rattle.rack.specs.Refusals.{Refusal, refusal, or-else, lowest-fault, link-fault, links-refusal, well-formed}
+use Rattle.rack.specs.Refusals.{Refusal, refusal, or-else, lowest-fault, most-parallel, link-fault, links-refusal, well-formed}
 use Rattle.rack.proofs.Logic.{by-eq, by-lt, nor-left, nor-right, and-left, and-right}
 use Rattle.rack.proofs.Lists.{In, all-in, in-all, getD-in}
 use Rattle.rack.proofs.Tables.{in-range, range-in, lowest-passes, lowest-first, lowest-is}
@@ -73,7 +74,7 @@ module _ (n : ℕ) (f : ℕ → ℕ) where
       ))
       (λ k. inl (rw (le-ltb (lowest n (λ i. not (eqb (f i) 0))) n k) refl))
 
--- 6 AND 7: a link joins two different cards
+-- 6 TO 8: a link joins two different cards, and too few earlier links join them for 8
 abbrev pub Joins-cards : Wiring → Link → Type 0
 Joins-cards w l = (l .first < w .cards) × (l .second < w .cards) × (l .first ≢ l .second)
 
@@ -85,6 +86,26 @@ link-fault-clear w i h =
     let c₆ = cond-zero (leb (w .cards) p || leb (w .cards) q) 6 _ (λ e. omega arith) h in
     let c₇ = cond-zero (eqb p q) 7 _ (λ e. omega arith) (c₆ .1) in
     (leb-false (w .cards) p (nor-left (leb (w .cards) p) (leb (w .cards) q) (c₆ .0)), leb-false (w .cards) q (nor-right (leb (w .cards) p) (leb (w .cards) q) (c₆ .0)), eqb-false p q (c₇ .0))
+
+pub link-fault-few : (w : Wiring) (i : ℕ) → link-fault w i ≡ 0 → count (joins (link-at w i .first) (link-at w i .second)) (take i (w .links)) < most-parallel
+unfolding link-fault
+link-fault-few w i h =
+    let p = link-at w i .first in
+    let q = link-at w i .second in
+    let earlier = count (joins p q) (take i (w .links)) in
+    let c₆ = cond-zero (leb (w .cards) p || leb (w .cards) q) 6 _ (λ e. omega arith) h in
+    let c₇ = cond-zero (eqb p q) 7 _ (λ e. omega arith) (c₆ .1) in
+    leb-false most-parallel earlier (cond-zero (leb most-parallel earlier) 8 0 (λ e. omega arith) (c₇ .1) .0)
+
+pub clear-link-fault : (w : Wiring) (i : ℕ) → Joins-cards w (link-at w i) → count (joins (link-at w i .first) (link-at w i .second)) (take i (w .links)) < most-parallel → link-fault w i ≡ 0
+unfolding link-fault
+clear-link-fault w i (p, q, apart) few =
+    rw (
+      lt-leb (w .cards) (link-at w i .first) p,
+      lt-leb (w .cards) (link-at w i .second) q,
+      ne-eqb (link-at w i .first) (link-at w i .second) apart,
+      lt-leb most-parallel (count (joins (link-at w i .first) (link-at w i .second)) (take i (w .links))) few,
+    ) refl
 
 links-clear : (w : Wiring) → links-refusal w .number ≡ 0 → (l : Link) → In l (w .links) → Joins-cards w l
 unfolding links-refusal

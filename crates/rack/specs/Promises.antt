@@ -3,15 +3,15 @@ use mathlib.Core.Path.{_≡_}
 use mathlib.Core.Bool.{Bool, true, false}
 use mathlib.Core.Logic.{_⊎_, _↔_, _≢_}
 use mathlib.Core.List.{List}
-use Prim.Native.Nat.{ℕ, suc, _≤_, _<_}
+use Prim.Native.Nat.{ℕ, suc, _+_, _*_, _≤_, _<_}
 use lib.Dec.{ltb}
-use lib.ListN.{length}
-use Rattle.rack.specs.Lists.{all}
-use Rattle.rack.specs.Wiring.{Wiring, linked}
+use lib.ListN.{length, take}
+use Rattle.rack.specs.Lists.{all, count}
+use Rattle.rack.specs.Wiring.{Wiring, link-count, link-at, joins, linked}
 use Rattle.rack.specs.Hops.{hops, is-path, connected}
 use Rattle.rack.specs.Columns.{columns, column-count, address, Embedding}
-use Rattle.rack.specs.Refusals.{well-formed, parity-refusal, rack-refusal}
-use Rattle.rack.specs.WiringFile.{file-wiring, form-refusal, file-refusal, file-bytes}
+use Rattle.rack.specs.Refusals.{most-parallel, links-refusal, well-formed, parity-refusal, rack-refusal}
+use Rattle.rack.specs.WiringFile.{number-at, file-wiring, sizes-fault, form-refusal, file-refusal, file-bytes}
 use Rattle.rack.specs.Embeddings.{reduced-columns, times}
 
 -- "Hops between two cards are the fewest links on a way from one to the other": no path has fewer, one has as many,
@@ -66,6 +66,29 @@ Columns-once = (w : Wiring) (c : List Bool) → times c (columns w) ≤ 1
 -- "k is at most n-1 in an accepted rack"
 unfoldable pub Few-columns : Type 0
 Few-columns = (w : Wiring) → well-formed w ≡ true → rack-refusal w .number ≡ 0 → suc (column-count w) ≤ w .cards
+
+-- 2 to 5: none applies exactly if the counts are in their ranges and give the file's length
+unfoldable pub Sizes-in-range : Type 0
+Sizes-in-range =
+    (bs : List ℕ) →
+    (sizes-fault bs ≡ 0)
+    ↔ ((1 ≤ number-at bs 0) × (number-at bs 0 ≤ 256) × (number-at bs 2 ≤ 2048) × (length bs ≡ 4 + 4 * number-at bs 2))
+
+-- 6 to 8: none applies exactly if each link joins two different cards and fewer earlier links join them than may
+unfoldable pub Links-join : Type 0
+Links-join =
+    (w : Wiring) →
+    (links-refusal w .number ≡ 0)
+    ↔ ((i : ℕ) → i < link-count w →
+    (link-at w i .first < w .cards) × (link-at w i .second < w .cards) × (link-at w i .first ≢ link-at w i .second)
+    × (count (joins (link-at w i .first) (link-at w i .second)) (take i (w .links)) < most-parallel))
+
+-- 10: in a connected rack exactly if some link's ends have equal hops from card 0
+unfoldable pub Odd-loop : Type 0
+Odd-loop =
+    (w : Wiring) → connected w ≡ true →
+    (rack-refusal w .number ≡ 10)
+    ↔ ((i : ℕ) × (i < link-count w) × (hops w 0 (link-at w i .first) ≡ hops w 0 (link-at w i .second)))
 
 -- "A wiring file is well formed exactly if none of 2 to 8 applies": it is then refused as its wiring is, and its wiring gives it back
 unfoldable pub File-as-wiring : Type 0

@@ -24,19 +24,19 @@ module _ (ps : List ℕ) (c : ℕ) (r : Sizes) (s : Read-says ps r) where
     read : plan-refusal ps ≡ 0
     read = sym (s .number) ∙ e
 
-    cards-told : r .cards ≡ plan-cards ps
-    cards-told = s .cards ∙ rw (eq-eqb (plan-refusal ps) 0 read) refl
+    cards-answered : r .cards ≡ plan-cards ps
+    cards-answered = s .cards ∙ rw (eq-eqb (plan-refusal ps) 0 read) refl
 
-    links-told : r .links ≡ plan-links ps
-    links-told = s .links ∙ rw (eq-eqb (plan-refusal ps) 0 read) refl
+    links-answered : r .links ≡ plan-links ps
+    links-answered = s .links ∙ rw (eq-eqb (plan-refusal ps) 0 read) refl
 
-    columns-told : r .columns ≡ plan-columns ps
-    columns-told = s .columns ∙ rw (eq-eqb (plan-refusal ps) 0 read) refl
+    columns-answered : r .columns ≡ plan-columns ps
+    columns-answered = s .columns ∙ rw (eq-eqb (plan-refusal ps) 0 read) refl
 
     pub address-outside : r .cards ≤ c → (_≡_ {A = List ℕ} [] (address-part ps c)) × (_≡_ {A = ℕ} 14 (address-refusal ps c))
     unfolding address-part address-refusal
     address-outside h =
-        rw (eq-eqb (plan-refusal ps) 0 read, le-leb (plan-cards ps) c (omega (arith, cards-told))) (refl, refl)
+        rw (eq-eqb (plan-refusal ps) 0 read, le-leb (plan-cards ps) c (omega (arith, cards-answered))) (refl, refl)
 
     -- the part's place, and room for each sum
     pub record Place : Type 0 where
@@ -51,18 +51,18 @@ module _ (ps : List ℕ) (c : ℕ) (r : Sizes) (s : Read-says ps r) where
         let z = layout-facts ps (plan-clear ps read .0) in
         let size = (plan-columns ps + 7) / 8 in
         record {
-          columns = omega (arith, columns-told, z .columns);
-          links = omega (arith, links-told, z .links);
-          few = rw columns-told (mul-le-mul {n₂ = 256} {m₂ = 32} (omega (arith, cards-told, z .cards)) (omega (arith, z .columns)));
-          inside = rw (columns-told, links-told) (omega (arith, z .long, suc-mul c size, mul-le-mul-right size (address-below h)));
+          columns = omega (arith, columns-answered, z .columns);
+          links = omega (arith, links-answered, z .links);
+          few = rw columns-answered (mul-le-mul {n₂ = 256} {m₂ = 32} (omega (arith, cards-answered, z .cards)) (omega (arith, z .columns)));
+          inside = rw (columns-answered, links-answered) (omega (arith, z .long, suc-mul c size, mul-le-mul-right size (address-below h)));
         }
       where
         address-below : c < r .cards → c < plan-cards ps
-        address-below h = omega (arith, cards-told)
+        address-below h = omega (arith, cards-answered)
 
     pub address-inside : c < r .cards
         → (take (6 + 4 * r .links + c * ((r .columns + 7) / 8) + (r .columns + 7) / 8 - (6 + 4 * r .links + c * ((r .columns + 7) / 8))) (drop (6 + 4 * r .links + c * ((r .columns + 7) / 8)) ps) ≡ address-part ps c)
         × (r .number ≡ address-refusal ps c)
     unfolding address-part address-refusal address-size
     address-inside h =
-        rw (eq-eqb (plan-refusal ps) 0 read, lt-leb (plan-cards ps) c (omega (arith, cards-told)), add-sub-cancel-left, ← links-told, ← columns-told) (refl, e)
+        rw (eq-eqb (plan-refusal ps) 0 read, lt-leb (plan-cards ps) c (omega (arith, cards-answered)), add-sub-cancel-left, ← links-answered, ← columns-answered) (refl, e)

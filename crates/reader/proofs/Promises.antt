@@ -1,21 +1,31 @@
 -- The promises of specs/Promises.antt, proved. Assumes nothing.
-use mathlib.Core.Path.{_≡_, _∙_, subst}
+use mathlib.Core.Path.{_≡_, refl, sym, ap, _∙_, subst}
+use mathlib.Core.Bool.{true, false}
 use mathlib.Core.List.{List}
-use Prim.Native.Nat.{ℕ, _≤_, _<_}
+use Prim.Native.Nat.{ℕ, _-_, _≤_, _<_}
 use native.Mathlib.Omega.{arith}
+use lib.Dec.{eqb}
+use lib.ListN.{length, take, replicate}
+use lib.Seq.{take-at}
+use borrow.Author.Tests.{eq-eqb}
 use Rattle.rack.specs.Wiring.{Wiring, link-count}
 use Rattle.rack.specs.Hops.{hops}
 use Rattle.rack.specs.WiringFile.{most-cards, most-links, file-wiring, file-refusal, file-bytes}
 use Rattle.rack.specs.Columns.{column-count, address}
+use Rattle.rack.proofs.Logic.{by-bool}
 use Rattle.rack.proofs.Hamming.{hamming-ext}
 use Rattle.rack.proofs.Hops.{connected-all}
 use Rattle.rack.proofs.Accepted.{Accepted, wiring-accepted, accepted-inside, file-clear, clear-file}
 use Rattle.rack.proofs.WiringFile.{Fits, wiring-at-cards, wiring-at-count, file-bytes-wiring, file-bytes-sized, sized-clear}
-use Rattle.planner.specs.PlanBytes.{plan-bytes}
+use Rattle.planner.specs.PlanBytes.{address-size, plan-bytes}
+use Rattle.planner.specs.Planning.{lent-plan, left-in, writing-refusal, Write-says}
+use Rattle.planner.specs.declared.Answer.{Answer}
 use Rattle.planner.proofs.PlanBytes.{written-columns}
 use Rattle.reader.specs.Plan.{plan-cards, plan-columns, plan-wiring, plan-refusal, plan-bit, plan-hamming}
-use Rattle.reader.specs.Promises.{Read-exactly, Measured, Reader-promise}
-use Rattle.reader.proofs.Plan.{Layout, layout-facts, plan-clear, plan-read, accepted-fits, written-bit}
+use Rattle.reader.specs.Promises.{Read-exactly, Calls-agree, Layout-in-range, Address-fits, Measured, Reader-promise}
+use Rattle.reader.specs.Reading.{Read-says}
+use Rattle.reader.specs.declared.layout.Sizes.{Sizes}
+use Rattle.reader.proofs.Plan.{Layout, layout-facts, facts-layout, plan-clear, plan-read, accepted-fits, written-bit}
 
 -- A PLAN THAT WAS READ has an accepted wiring inside, and is its plan
 module _ (ps : List ℕ) (h : plan-refusal ps ≡ 0) where
@@ -71,13 +81,62 @@ pub reader-promise : Reader-promise
 unfolding Reader-promise
 reader-promise ps h = read-measured ps h
 
+pub layout-in-range : Layout-in-range
+unfolding Layout-in-range
+layout-in-range ps = (
+  (λ h. let z = layout-facts ps h in (z .head, z .some, z .cards, z .links, z .columns, z .long)),
+  λ z. facts-layout ps (record { head = z .0; some = z .1; cards = z .2; links = z .3; columns = z .4; long = z .5 }),
+)
+
+pub address-fits : Address-fits
+unfolding Address-fits address-size
+address-fits k = (omega arith, omega arith)
+
+written-read : (bs : List ℕ) → file-refusal bs .number ≡ 0 → (plan-refusal (plan-bytes (file-wiring bs)) ≡ 0) × (plan-wiring (plan-bytes (file-wiring bs)) ≡ file-wiring bs)
+written-read bs h =
+    let c = file-clear bs h in
+    let z = c .0 in
+    let n = wiring-at-cards 4 bs in
+    plan-read (file-wiring bs) (wiring-accepted (file-wiring bs) (omega (arith, z .some)) (c .1)) (omega (arith, z .cards)) (omega (arith, z .links, wiring-at-count 4 bs)) (c .1)
+
 pub read-exactly : Read-exactly
 unfolding Read-exactly
-read-exactly = (read-file, written)
+read-exactly = (read-file, written-read)
+
+-- THE TWO CALLS: the used part of what the writer leaves is the plan
+module _ (bs output output-now : List ℕ) (a : Answer) (says : Write-says bs a output output-now) where
+  used-part : a .number ≡ 0 → take (a .value) output-now ≡ plan-bytes (file-wiring bs)
+  unfolding left-in
+  used-part z =
+      let plan = plan-bytes (file-wiring bs) in
+      let v : a .value ≡ length plan = says .answer .value ∙ rw (eq-eqb (writing-refusal bs (length output) .number) 0 (sym (says .answer .number) ∙ z)) refl in
+      ap (take (a .value)) (says .output-left ∙ rw z refl) ∙ take-at plan (replicate (length output - length plan) 0) (a .value) (sym v)
+
+  writer-clear : a .number ≡ 0 → file-refusal bs .number ≡ 0
+  unfolding writing-refusal
+  writer-clear z =
+      by-bool (eqb (length output) lent-plan)
+      (λ (t : eqb (length output) lent-plan ≡ true). rw t at (sym (says .answer .number) ∙ z))
+      (λ (t : eqb (length output) lent-plan ≡ false). let e = rw t at (sym (says .answer .number) ∙ z) in absurd (omega arith))
+
+  clear-writer : length output ≡ lent-plan → file-refusal bs .number ≡ 0 → a .number ≡ 0
+  unfolding writing-refusal
+  clear-writer room h = says .answer .number ∙ rw (eq-eqb (length output) lent-plan room) h
+
+pub calls-agree : Calls-agree
+unfolding Calls-agree
+calls-agree = (read-what-is-written, write-what-is-read)
   where
-    written : (bs : List ℕ) → file-refusal bs .number ≡ 0 → (plan-refusal (plan-bytes (file-wiring bs)) ≡ 0) × (plan-wiring (plan-bytes (file-wiring bs)) ≡ file-wiring bs)
-    written bs h =
-        let c = file-clear bs h in
-        let z = c .0 in
-        let n = wiring-at-cards 4 bs in
-        plan-read (file-wiring bs) (wiring-accepted (file-wiring bs) (omega (arith, z .some)) (c .1)) (omega (arith, z .cards)) (omega (arith, z .links, wiring-at-count 4 bs)) (c .1)
+    read-what-is-written : (bs output output-now : List ℕ) (a : Answer) (s : Sizes) → Write-says bs a output output-now → a .number ≡ 0
+        → Read-says (take (a .value) output-now) s → (s .number ≡ 0) × (plan-wiring (take (a .value) output-now) ≡ file-wiring bs)
+    read-what-is-written bs output output-now a s says z reads =
+        let e = used-part bs output output-now a says z in
+        let r = written-read bs (writer-clear bs output output-now a says z) in
+        (reads .number ∙ ap plan-refusal e ∙ r .0, ap plan-wiring e ∙ r .1)
+
+    write-what-is-read : (ps output output-now : List ℕ) (a : Answer) (s : Sizes) → Read-says ps s → s .number ≡ 0 → length output ≡ lent-plan
+        → Write-says (file-bytes (plan-wiring ps)) a output output-now → (a .number ≡ 0) × (take (a .value) output-now ≡ ps)
+    write-what-is-read ps output output-now a s reads e room says =
+        let r = read-file ps (sym (reads .number) ∙ e) in
+        let z = clear-writer (file-bytes (plan-wiring ps)) output output-now a says room (r .0) in
+        (z, used-part (file-bytes (plan-wiring ps)) output output-now a says z ∙ ap plan-bytes (r .1) ∙ r .2)

@@ -68,9 +68,9 @@ module _ (ps bs : List ℕ) (l : layout-holds ps ≡ true) (cut : bs ≡ inner-f
     unfolding content-holds
     bytes-decide = rw (eq-eqb (wiring-refusal (plan-wiring ps) .number) 0 (sym inner-number ∙ z)) refl
 
-    length-told : a .value ≡ length plan
+    length-answered : a .value ≡ length plan
     unfolding writing-refusal
-    length-told =
+    length-answered =
         w .answer .value
         ∙ rw (eq-eqb (writing-refusal (inner-file ps) (length o) .number) 0 (sym (w .answer .number) ∙ z), inner-wiring ps (layout-facts ps l)) refl
 
@@ -79,15 +79,15 @@ module _ (ps bs : List ℕ) (l : layout-holds ps ≡ true) (cut : bs ≡ inner-f
     written = w .output-left ∙ rw (z, inner-wiring ps (layout-facts ps l)) refl
 
     pub content-room : a .value ≡ length ps → length ps ≤ length out
-    content-room e = omega (arith, length-told, ap length written, length-append plan (replicate (length o - length plan) 0))
+    content-room e = omega (arith, length-answered, ap length written, length-append plan (replicate (length o - length plan) 0))
 
     pub content-other-length : a .value ≢ length ps → content-holds ps ≡ false
     content-other-length n =
-        bytes-decide ∙ not-true-false (same eqb plan ps) (λ t. n (length-told ∙ ap length (same-eq eqb eqb-true plan ps t)))
+        bytes-decide ∙ not-true-false (same eqb plan ps) (λ t. n (length-answered ∙ ap length (same-eq eqb eqb-true plan ps t)))
 
     pub content-as-compared : a .value ≡ length ps → (t : Bool) → t ≡ same eqb (take (length ps) out) ps → content-holds ps ≡ t
     content-as-compared e t g =
-        bytes-decide ∙ sym (g ∙ ap (λ (xs : List ℕ). same eqb xs ps) (ap (take (length ps)) written ∙ take-at plan (replicate (length o - length plan) 0) (length ps) (sym length-told ∙ e)))
+        bytes-decide ∙ sym (g ∙ ap (λ (xs : List ℕ). same eqb xs ps) (ap (take (length ps)) written ∙ take-at plan (replicate (length o - length plan) 0) (length ps) (sym length-answered ∙ e)))
 
 -- what the forwarder may lean on
 pub read-promise : (ps : List ℕ) (r : Sizes) → Read-says ps r → r .number ≡ 0 → Measured ps

@@ -2,12 +2,18 @@
 use mathlib.Core.Path.{_≡_}
 use mathlib.Core.Bool.{true}
 use mathlib.Core.List.{List}
-use Prim.Native.Nat.{ℕ, _<_}
+use mathlib.Core.Logic.{_↔_}
+use Prim.Native.Nat.{ℕ, _+_, _*_, _≤_, _<_}
+use lib.ListN.{length, take}
 use Rattle.rack.specs.Wiring.{link-count, link-at}
 use Rattle.rack.specs.Hops.{hops}
 use Rattle.rack.specs.WiringFile.{file-wiring, file-refusal, file-bytes}
-use Rattle.planner.specs.PlanBytes.{plan-bytes}
-use Rattle.reader.specs.Plan.{plan-cards, plan-wiring, layout-holds, plan-refusal, plan-hamming}
+use Rattle.planner.specs.PlanBytes.{address-size, plan-bytes}
+use Rattle.planner.specs.Planning.{Write-says}
+use Rattle.planner.specs.declared.Answer.{Answer}
+use Rattle.reader.specs.Plan.{plan-cards, plan-links, plan-columns, plan-wiring, layout-holds, plan-refusal, plan-hamming}
+use Rattle.reader.specs.Reading.{Read-says}
+use Rattle.reader.specs.declared.layout.Sizes.{Sizes}
 
 -- "A plan file is read exactly if it is the one that the planner writes for the wiring inside it": that wiring is accepted;
 -- and what the planner writes for an accepted file is read, with the same wiring inside
@@ -18,6 +24,28 @@ Read-exactly =
     × (plan-bytes (plan-wiring ps) ≡ ps))
     × ((bs : List ℕ) → file-refusal bs .number ≡ 0 →
     (plan-refusal (plan-bytes (file-wiring bs)) ≡ 0) × (plan-wiring (plan-bytes (file-wiring bs)) ≡ file-wiring bs))
+
+-- the same of the two calls: what the writer leaves is read, with the file's wiring inside, and a plan that is read is what it leaves
+-- for the file of the wiring inside
+unfoldable pub Calls-agree : Type 0
+Calls-agree =
+    ((bs output output-now : List ℕ) (a : Answer) (s : Sizes) → Write-says bs a output output-now → a .number ≡ 0 →
+    let ps = take (a .value) output-now in
+    Read-says ps s → (s .number ≡ 0) × (plan-wiring ps ≡ file-wiring bs))
+    × ((ps output output-now : List ℕ) (a : Answer) (s : Sizes) → Read-says ps s → s .number ≡ 0 → length output ≡ 16390 →
+    Write-says (file-bytes (plan-wiring ps)) a output output-now → (a .number ≡ 0) × (take (a .value) output-now ≡ ps))
+
+-- 12: it does not apply exactly if the sizes are in their ranges and give the plan's length
+unfoldable pub Layout-in-range : Type 0
+Layout-in-range =
+    (ps : List ℕ) →
+    (layout-holds ps ≡ true)
+    ↔ ((6 ≤ length ps) × (1 ≤ plan-cards ps) × (plan-cards ps ≤ 256) × (plan-links ps ≤ 2048) × (plan-columns ps ≤ 255)
+    × (length ps ≡ 6 + 4 * plan-links ps + plan-cards ps * address-size (plan-columns ps)))
+
+-- "B", the bytes of an address: as few as hold k bits
+unfoldable pub Address-fits : Type 0
+Address-fits = (k : ℕ) → (k ≤ 8 * address-size k) × (8 * address-size k < k + 8)
 
 -- all that forwarding leans on, with no word of the planner: a plan with a layout, links between its cards,
 -- a path from each card to each, and addresses that differ in as many places as there are hops

@@ -89,10 +89,10 @@ pub fn read_plan(plan: &[u8]) -> Sizes
     }
 }
 
-// A card's address, as that part of the plan's own bytes; empty with a refusal: 12, 13, 14, told in `number`.
+// A card's address, as that part of the plan's own bytes; empty with a refusal: 12, 13, 14, with its number in `number`.
 pub fn card_address<'a>(plan: &'a [u8], card: u32, number: &mut u32) -> &'a [u8]
     ensures part { λ r. ⌜ now r ≡ address-part (now (plan .entry)) card ⌝ }
-    ensures told { λ r. ⌜ now (number .exit) ≡ address-refusal (now (plan .entry)) card ⌝ }
+    ensures refusal { λ r. ⌜ now (number .exit) ≡ address-refusal (now (plan .entry)) card ⌝ }
 {
     let sizes = read_plan(plan);
     *number = sizes.number;

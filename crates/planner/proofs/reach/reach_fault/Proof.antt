@@ -1,4 +1,4 @@
--- `reach::reach_fault` meets its contract: the flags are those of the cards that can be reached, and the lowest card without one is told. Assumes nothing.
+-- `reach::reach_fault` meets its contract: the flags are those of the cards that can be reached, and the lowest card without one is said. Assumes nothing.
 use Rattle.planner.proofs.Forms.{cards-are}
 use borrow.Author.Needs.{needs}
 use Rattle.planner.proofs.reach.reach_fault.Statement.{statement}

@@ -3,8 +3,8 @@ use Rattle.rack.specs.Ones.{ones-in}
 use mathlib.Core.Path.{refl}
 use Rattle.rack.specs.Bits.{number-bit}
 use Rattle.rack.proofs.Bits.{table-counts}
-use Rattle.rack.proofs.places.ones_table.Statement.{statement}
-use Rattle.rack.proofs.places.ones_table.Tie as tie
+use Rattle.rack.proofs.ones.ones_table.Statement.{statement}
+use Rattle.rack.proofs.ones.ones_table.Tie as tie
 
 returns : tie.Need-returns
 unfolding number-bit ones-in
