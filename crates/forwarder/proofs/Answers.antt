@@ -9,8 +9,8 @@ use lib.Dec.{leb, eqb}
 use lib.ListN.{length}
 use borrow.Author.Tests.{eq-eqb, ne-eqb, le-leb, lt-leb}
 use Rattle.forwarder.specs.Forwarding.{walk}
-use Rattle.forwarder.specs.Calls.{step-refusal, most-traffic, can-take, walk-refusal, Walk-says}
-use Rattle.forwarder.specs.Parts.{Route-is, Unwalked, takes, Counted}
+use Rattle.forwarder.specs.Calls.{step-refusal, most-traffic, takes, can-take, walk-refusal, Walk-says}
+use Rattle.forwarder.specs.Parts.{Route-is, Unwalked, Counted}
 use Rattle.forwarder.specs.declared.walk.Traffic.{Traffic}
 use Rattle.forwarder.specs.declared.walk.Walked.{Walked}
 use Rattle.forwarder.specs.declared.walk.Route.{Route}
@@ -100,7 +100,7 @@ module _ (ps : List ℕ) (a b : ℕ) (t : Traffic) (old : List ℕ) where
   -- 15, OR THE WALK
   module _ (v : Route) (r : Walked) (l : length old ≡ 256) (e : step-refusal ps a b ≡ 0) (w : Route-is (walk ps a b) v) (k : Counted t (v .arrived) (v .hops) r) where
     says-walked : (new : List ℕ) → new ≡ cond (eqb (r .number) 0) (v .met) old → Walk-says ps a b t r old new
-    unfolding walk-refusal can-take takes
+    unfolding walk-refusal
     says-walked new f =
         record {
           number =

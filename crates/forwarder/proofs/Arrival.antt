@@ -14,8 +14,7 @@ use Rattle.reader.specs.Promises.{Measured}
 use Rattle.reader.specs.Reading.{layout-refusal}
 use Rattle.reader.proofs.Promises.{read-measured}
 use Rattle.forwarder.specs.Forwarding.{walk}
-use Rattle.forwarder.specs.Calls.{most-traffic, walk-hops, can-take, step-refusal, walk-refusal, Walk-says, Frame, Arrived, Full, Can-take}
-use Rattle.forwarder.specs.Parts.{takes}
+use Rattle.forwarder.specs.Calls.{most-traffic, walk-hops, takes, can-take, step-refusal, walk-refusal, Walk-says, Frame, Arrived, Full, Can-take}
 use Rattle.forwarder.specs.declared.walk.Traffic.{Traffic}
 use Rattle.forwarder.specs.declared.walk.Walked.{Walked}
 use Rattle.forwarder.proofs.Frames.{both-cards}
@@ -47,7 +46,6 @@ module _ (ps : List ℕ) (a b : ℕ) (t : Traffic) (r : Walked) (old new : List 
       s .number ∙ rw (eq-eqb (length old) 256 (f .room), eq-eqb (step-refusal ps a b) 0 (both-cards ps a b l (f .from) (f .to))) refl
 
   pub walk-arrived : Can-take t fewest → Arrived ps a b t r new
-  unfolding can-take takes
   walk-arrived (frame, total) =
       let k : can-take t (walk ps a b) ≡ true = takes-fits t (walk ps a b .arrived) (walk-hops (walk ps a b)) frame (rw walked-hops total) in
       arrived (rw k at number-is)
@@ -74,7 +72,7 @@ module _ (ps : List ℕ) (a b : ℕ) (t : Traffic) (r : Walked) (old new : List 
 
   -- a frame that arrives is counted, so the counts take it only where both tests pass
   takes-both : can-take t (walk ps a b) ≡ true → Can-take t fewest
-  unfolding can-take
+  unfolding takes
   takes-both e =
       let frame-test = leb (suc (t .frames)) most-traffic in
       let total-test = leb (t .hops + walk-hops (walk ps a b)) most-traffic in

@@ -42,7 +42,16 @@ module _ (ps : List ℕ) (m : Measured ps) where
       rw (o .far) (
         inside,
         joined,
-        omega (arith, o .nearer .less, same-cards, m .measured a b ha hb, m .measured (other-end a l) b inside hb, hops-linked inner a (other-end a l) (omega (arith, same-cards)) joined, hops-triangle inner a (other-end a l) b),
+        omega (
+          arith,
+          o .nearer .less,
+          same-cards,
+          m .measured a b ha hb,
+          m .measured (other-end a l) b inside hb,
+          hops-linked inner a (other-end a l)
+              (omega (arith, same-cards)) joined,
+          hops-triangle inner a (other-end a l) b,
+        ),
       )
 
   -- a link to a card nearer to b is enough for a step

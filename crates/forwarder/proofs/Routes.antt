@@ -87,7 +87,8 @@ module _ (ps : List ℕ) (a b : ℕ) where
         walked : Behind (z .cards ++ (z .card ∷ [])) (walk-from (suc (z .more - 1)) ps (s .far) b) (walk ps a b)
         walked =
             let m : z .more ≡ suc (z .more - 1) = omega (arith, far-less h, z .enough) in
-            let v : Behind (z .cards) (after ps (z .card) b (walk-from (z .more) ps (step ps (z .card) b .far) b)) (walk ps a b) = rw (walk-goes-on ps (z .more) (z .card) b (over h)) at (z .rest) in
+            let v : Behind (z .cards) (after ps (z .card) b (walk-from (z .more) ps (step ps (z .card) b .far) b)) (walk ps a b) = rw
+            (walk-goes-on ps (z .more) (z .card) b (over h)) at (z .rest) in
             subst (λ (x : Walk). Behind (z .cards ++ (z .card ∷ [])) x (walk ps a b)) (ap₂ (λ (x y : ℕ). walk-from x ps y b) m (sym (z .next .far)))
             (v .0, v .1 ∙ sym (append-snoc (z .cards) (z .card) (walk-from (z .more) ps (step ps (z .card) b .far) b .met)))
 

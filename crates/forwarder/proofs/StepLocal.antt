@@ -70,7 +70,8 @@ step-local ps qs a b en em ek touch other bits far = by-eq a b here there
         leads-nearer-other ps a b (link-at (plan-wiring ps) i)
         ∙ by-bool (touches a (link-at (plan-wiring ps) i))
         (λ e. ap₂ _&&_ t (same-other i (h, e)))
-        (λ e. ap (λ (x : Bool). x && other-test ps a b (other-end a (link-at (plan-wiring ps) i))) e ∙ sym (ap (λ (x : Bool). x && other-test qs a b (other-end a (link-at (plan-wiring qs) i))) (sym t ∙ e)))
+        (λ e. ap (λ (x : Bool). x && other-test ps a b (other-end a (link-at (plan-wiring ps) i))) e ∙ sym
+        (ap (λ (x : Bool). x && other-test qs a b (other-end a (link-at (plan-wiring qs) i))) (sym t ∙ e)))
         ∙ sym (leads-nearer-other qs a b (link-at (plan-wiring qs) i))
 
     same-next : next-link ps a b ≡ next-link qs a b
@@ -81,7 +82,8 @@ step-local ps qs a b en em ek touch other bits far = by-eq a b here there
     there : a ≢ b → step ps a b ≡ step qs a b
     there n =
         by-lt (next-link ps a b) (link-count (plan-wiring ps))
-        (λ h. let f = nearer-facts ps a b (link-at (plan-wiring ps) (next-link ps a b)) (lowest-passes (link-count (plan-wiring ps)) (λ i. leads-nearer ps a b (link-at (plan-wiring ps) i)) h) in
+        (λ h. let f = nearer-facts ps a b (link-at (plan-wiring ps) (next-link ps a b))
+        (lowest-passes (link-count (plan-wiring ps)) (λ i. leads-nearer ps a b (link-at (plan-wiring ps) i)) h) in
         step-over ps a b n h
         ∙ ap₂ (step-of 2) same-next (other (next-link ps a b) (h, f .of-a) ∙ ap (λ (i : ℕ). other-end a (link-at (plan-wiring qs) i)) same-next)
         ∙ sym (step-over qs a b n (omega (arith, counts, same-next))))

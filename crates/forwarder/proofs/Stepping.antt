@@ -22,7 +22,11 @@ unfolding touches other-end
 touches-ends a l h =
     by-eq (l .first) a
     (λ e. rw (eq-eqb (l .first) a e) (inl (e, refl)))
-    (λ n. rw (ne-eqb (l .first) a n) (inr (refl, ⊎-elim (λ k. absurd (n (eqb-true (l .first) a k))) (λ k. eqb-true (l .second) a k) (or-cases (eqb (l .first) a) (eqb (l .second) a) h))))
+    (λ n. rw (ne-eqb (l .first) a n) (inr (
+      refl,
+      ⊎-elim (λ k. absurd (n (eqb-true (l .first) a k))) (λ k. eqb-true (l .second) a k)
+          (or-cases (eqb (l .first) a) (eqb (l .second) a) h),
+    )))
 
 pub ends-touch : (a c : ℕ) (l : Link) → Ends a c l → c ≢ a → (touches a l ≡ true) × (other-end a l ≡ c)
 unfolding touches other-end

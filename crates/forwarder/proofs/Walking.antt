@@ -39,7 +39,8 @@ module _ (ps : List ℕ) where
   walk-runs zero a b h = absurd (omega arith)
   walk-runs (suc left) a b h =
       by-eq (step ps a b .outcome) 2
-      (λ e. rw (walk-goes-on left a b e) (runs-on a b (walk-from left ps (step ps a b .far) b) e (walk-runs left (step ps a b .far) b (omega (arith, step-less ps a b e)))))
+      (λ e. rw (walk-goes-on left a b e) (runs-on a b (walk-from left ps (step ps a b .far) b) e
+      (walk-runs left (step ps a b .far) b (omega (arith, step-less ps a b e)))))
       (λ n. rw (walk-ended left a b n) ([], refl, n, refl, omega arith))
 
   pub walk-all-runs : (a b : ℕ) → Runs a b (walk ps a b)

@@ -36,13 +36,15 @@ pub record Step-says (ps : List ℕ) (a b : ℕ) (r : Stepped) : Type 0 where
 abbrev pub most-traffic : ℕ
 most-traffic = 4294967295
 
--- the counts can take a walk: it is stuck, or one frame more and its hops pass no limit
 unfoldable pub walk-hops : Walk → ℕ
 walk-hops v = length (v .met) - 1
 
-unfoldable pub can-take : Traffic → Walk → Bool
-can-take t v =
-    eqb (v .arrived) 0 || (leb (suc (t .frames)) most-traffic && leb (t .hops + walk-hops v) most-traffic)
+-- the counts take a walk that ended so: it is stuck, or one frame more and its hops pass no limit
+unfoldable pub takes : Traffic → (arrived hops : ℕ) → Bool
+takes t o h = eqb o 0 || (leb (suc (t .frames)) most-traffic && leb (t .hops + h) most-traffic)
+
+abbrev pub can-take : Traffic → Walk → Bool
+can-take t v = takes t (v .arrived) (walk-hops v)
 
 -- 1: the lent buffer has not 256 numbers; 12; 14; 15
 unfoldable pub walk-refusal : List ℕ → (a b : ℕ) → Traffic → (room : ℕ) → ℕ

@@ -9,7 +9,7 @@ use Rattle.rack.specs.Wiring.{Link, touches, other-end}
 use Rattle.reader.specs.Reading.{Laid-out}
 use Rattle.reader.specs.declared.layout.Sizes.{Sizes}
 use Rattle.forwarder.specs.Forwarding.{Walk}
-use Rattle.forwarder.specs.Calls.{step-refusal, most-traffic, walk-hops}
+use Rattle.forwarder.specs.Calls.{step-refusal, walk-hops, takes}
 use Rattle.forwarder.specs.declared.step.Stepped.{Stepped}
 use Rattle.forwarder.specs.declared.walk.Traffic.{Traffic}
 use Rattle.forwarder.specs.declared.walk.Walked.{Walked}
@@ -47,10 +47,6 @@ pub record Unwalked (number : ℕ) (t : Traffic) (r : Walked) : Type 0 where
   pub arrived : r .arrived ≡ 0
   pub hops : r .hops ≡ 0
   pub traffic : r .traffic ≡ t
-
--- the counts take a walk that ended so: it is stuck, or one frame more and its hops pass no limit
-unfoldable pub takes : Traffic → (arrived hops : ℕ) → Bool
-takes t o h = eqb o 0 || (leb (suc (t .frames)) most-traffic && leb (t .hops + h) most-traffic)
 
 -- a walk's answer: its counts raised where it arrived, or 15 and zeros with the counts as they were
 pub record Counted (t : Traffic) (o h : ℕ) (r : Walked) : Type 0 where

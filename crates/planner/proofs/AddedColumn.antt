@@ -61,7 +61,8 @@ more-added h old new p q k c v a hc hk long hv =
 
     here : (x : ℕ) → x ≡ c → Added x
     here x e =
-        rw e (getD-set-same new (4 * c + k / 64) v 0 (omega (arith, a .long)) ∙ hv ∙ ap (λ (y : ℕ). y + one (side-in h p q c) * 2 ^ (k % 64)) (a .after (4 * c + k / 64) (omega arith)))
+        rw e (getD-set-same new (4 * c + k / 64) v 0 (omega (arith, a .long)) ∙ hv ∙ ap (λ (y : ℕ). y + one (side-in h p q c) * 2 ^ (k % 64))
+        (a .after (4 * c + k / 64) (omega arith)))
 
     earlier : (x : ℕ) → x < c + 1 → (x ≡ c → ⊥) → Added x
     earlier x l n = getD-set-other new (4 * c + k / 64) (4 * x + k / 64) v 0 (λ e. n (omega arith)) ∙ a .added x (omega arith)

@@ -35,10 +35,12 @@ hamming-part : (ws : List ℕ) (a b t : ℕ)
 hamming-part ws a b t =
     hamming-add (64 * t) 64 (word-bit ws a) (word-bit ws b)
     ∙ ap (λ (x : ℕ). hamming (64 * t) (word-bit ws a) (word-bit ws b) + x)
-    (hamming-ext 64 (λ i. word-bit ws a (64 * t + i)) (λ i. word-bit ws b (64 * t + i)) (number-bit (getD ws (4 * a + t) 0)) (number-bit (getD ws (4 * b + t) 0)) (part-bit ws a t) (part-bit ws b t))
+    (hamming-ext 64 (λ i. word-bit ws a (64 * t + i)) (λ i. word-bit ws b (64 * t + i)) (number-bit (getD ws (4 * a + t) 0))
+    (number-bit (getD ws (4 * b + t) 0)) (part-bit ws a t) (part-bit ws b t))
 
 pub words-hamming-parts : (ws : List ℕ) (a b : ℕ)
-    → words-hamming ws a b ≡ part-hamming ws (4 * a) (4 * b) + part-hamming ws (4 * a + 1) (4 * b + 1) + part-hamming ws (4 * a + 2) (4 * b + 2) + part-hamming ws (4 * a + 3) (4 * b + 3)
+    → words-hamming ws a b ≡ part-hamming ws (4 * a) (4 * b) + part-hamming ws (4 * a + 1) (4 * b + 1) + part-hamming ws (4 * a + 2)
+    (4 * b + 2) + part-hamming ws (4 * a + 3) (4 * b + 3)
 unfolding words-hamming
 words-hamming-parts ws a b =
     let ea : 4 * a + 0 ≡ 4 * a = omega arith in
@@ -117,4 +119,5 @@ zero-words n ws e =
     zero-at : (j : ℕ) → getD ws j 0 ≡ 0
     zero-at j =
         ap (λ (x : List ℕ). getD x j 0) e
-        ∙ by-lt j 1024 (λ l. getD-replicate {A = ℕ} 1024 j 0 0 l) (λ l. List·getD-eq-default (replicate {A = ℕ} 1024 0) 0 {n = j} (omega (arith, length-replicate {A = ℕ} 1024 0)))
+        ∙ by-lt j 1024 (λ l. getD-replicate {A = ℕ} 1024 j 0 0 l)
+        (λ l. List·getD-eq-default (replicate {A = ℕ} 1024 0) 0 {n = j} (omega (arith, length-replicate {A = ℕ} 1024 0)))

@@ -116,11 +116,20 @@ module _ (bs ws : List ℕ) (n m k : ℕ) (sizes : Sizes-are bs n m) where
   unfolding written-bytes
   plan-written o₀ o₁ o₂ o₃ z a b c =
       rw (← (sizes .cards), ← (sizes .links))
-      (appends-then 0 (6 + 4 * m) o₀ o₂ o₃ (head ++ blocks (2 * m) (end-pair bs)) addresses (simp length-append (omega (arith, length-two-bytes n, length-two-bytes m, length-two-bytes k, length-ends)))
+      (appends-then 0 (6 + 4 * m) o₀ o₂ o₃ (head ++ blocks (2 * m) (end-pair bs)) addresses
+      (simp length-append (omega (arith, length-two-bytes n, length-two-bytes m, length-two-bytes k, length-ends)))
       (appends-then 0 6 o₀ o₁ o₂ head (blocks (2 * m) (end-pair bs)) (omega (arith, length-head)) a b) c [] refl (rw z (written-none 16390)))
 
   pub plan-length : 6 + 4 * m + n * address-size k ≡ length (written-bytes bs ws k)
   unfolding written-bytes
   plan-length =
       rw (← (sizes .cards), ← (sizes .links))
-      (sym (simp length-append (omega (arith, length-two-bytes n, length-two-bytes m, length-two-bytes k, length-ends, length-blocks n (address-size k) (λ c. tabulate (address-size k) (word-byte ws c)) (λ c. length-tabulate (address-size k) (word-byte ws c))))))
+      (sym (simp length-append (omega (
+        arith,
+        length-two-bytes n,
+        length-two-bytes m,
+        length-two-bytes k,
+        length-ends,
+        length-blocks n
+            (address-size k) (λ c. tabulate (address-size k) (word-byte ws c)) (λ c. length-tabulate (address-size k) (word-byte ws c)),
+      ))))

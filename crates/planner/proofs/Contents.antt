@@ -70,7 +70,8 @@ words-list w ws few h = zeros-behind (all-words w) ws (omega (arith, h .long, le
         let f : i ≡ i / 4 * 4 + i % 4 = omega arith in
         let c : i / 4 < w .cards = omega (arith, length-all-words w) in
         ap (λ (p : ℕ). getD ws p 0) e ∙ h .is (i / 4) (i % 4) c (omega arith) ∙ sym (card-word (address w (i / 4)) (i % 4) (omega arith))
-        ∙ sym (ap (λ (p : ℕ). getD (all-words w) p 0) f ∙ getD-blocks (w .cards) 4 (λ c. card-words (address w c)) (λ c. length-card-words (address w c)) (i / 4) (i % 4) 0 c (omega arith))
+        ∙ sym (ap (λ (p : ℕ). getD (all-words w) p 0) f ∙ getD-blocks (w .cards) 4 (λ c. card-words (address w c))
+        (λ c. length-card-words (address w c)) (i / 4) (i % 4) 0 c (omega arith))
 
 -- the address is read back from them
 pub word-bit-address : (w : Wiring) (zs : List ℕ) (c j : ℕ) → c < w .cards → j < 256 → word-bit (all-words w ++ zs) c j ≡ address w c j
@@ -78,7 +79,8 @@ unfolding word-bit all-words
 word-bit-address w zs c j hc hj =
     let e : 64 * (j / 64) + j % 64 ≡ j = omega arith in
     ap (λ (x : ℕ). number-bit x (j % 64))
-    (table-at (w .cards) 4 (λ c. card-words (address w c)) (λ c. length-card-words (address w c)) zs c (j / 64) hc (omega arith) ∙ card-word (address w c) (j / 64) (omega arith))
+    (table-at (w .cards) 4 (λ c. card-words (address w c)) (λ c. length-card-words (address w c)) zs c (j / 64) hc (omega arith) ∙ card-word
+    (address w c) (j / 64) (omega arith))
     ∙ bits-value-number 64 (λ i. address w c (64 * (j / 64) + i)) (j % 64) (omega arith)
     ∙ ap (address w c) e
 

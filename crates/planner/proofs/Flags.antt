@@ -168,7 +168,8 @@ module _ (w : Wiring) (s : List ℕ) (flagged : Flagged w s)
         long = flagged .long;
         reach = flagged .real;
         apart = λ c h z. by-lt (hops w 0 c) (w .cards)
-            (λ l. absurd (no-change (path-changes w (is-flagged s) (hops w 0 c) 0 c (hops-path w 0 c l) (flagged-true s 0 (λ e. omega (arith, e, flagged .start))) (flagged-false s c z))))
+            (λ l. absurd (no-change (path-changes w (is-flagged s) (hops w 0 c) 0 c (hops-path w 0 c l)
+            (flagged-true s 0 (λ e. omega (arith, e, flagged .start))) (flagged-false s c z))))
             (λ l. omega (arith, hops-le w 0 c));
       }
 

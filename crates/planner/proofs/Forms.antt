@@ -81,7 +81,8 @@ module _ (bs : List ℕ) (n m : ℕ) (sizes : Sizes-are bs n m) where
       }
     where
       joins-cards : (i : ℕ) → i < m → Joins-cards (file-wiring bs) (link-at (file-wiring bs) i)
-      joins-cards i l = link-fault-clear (file-wiring bs) i (lowest-fault-clear (link-count (file-wiring bs)) (link-fault (file-wiring bs)) h i (omega (arith, links-are)))
+      joins-cards i l =
+          link-fault-clear (file-wiring bs) i (lowest-fault-clear (link-count (file-wiring bs)) (link-fault (file-wiring bs)) h i (omega (arith, links-are)))
 
 -- the wiring of a formed file
 module _ (bs : List ℕ) (n m : ℕ) (f : Formed bs n m) where

@@ -102,7 +102,8 @@ module _ (w : Wiring) (i p q : ℕ) (ep : p ≡ link-at w i .first) (eq : q ≡ 
 
     pub fault-parallel : p ≢ q → most-parallel ≤ count (joins p q) (take i (w .links)) → link-fault w i ≡ 8
     unfolding link-fault
-    fault-parallel n h = rw (← ep, ← eq, lt-leb (w .cards) p hp, lt-leb (w .cards) q hq, ne-eqb p q n, le-leb most-parallel (count (joins p q) (take i (w .links))) h) refl
+    fault-parallel n h =
+        rw (← ep, ← eq, lt-leb (w .cards) p hp, lt-leb (w .cards) q hq, ne-eqb p q n, le-leb most-parallel (count (joins p q) (take i (w .links))) h) refl
 
     pub fault-none : p ≢ q → count (joins p q) (take i (w .links)) < most-parallel → link-fault w i ≡ 0
     unfolding link-fault

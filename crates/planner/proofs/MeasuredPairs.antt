@@ -82,11 +82,13 @@ module _ (w : Wiring) (rack : Rack w) (ws h : List ℕ) (n m k : ℕ) (cards : n
       impossible : Embedding w (length (columns w)) (bit-in (columns w)) → ⊥
       impossible m =
           let same = opened-columns w rack (length (columns w)) (bit-in (columns w)) m in
-          p (subst (λ (v : ℕ). Pairs-measure ws h v) (sym cards) (embed-pairs w (columns w) ws h (rw same at (all-words g)) (omega (arith, all-count g, ap length same)) t m))
+          p (subst (λ (v : ℕ). Pairs-measure ws h v) (sym cards)
+          (embed-pairs w (columns w) ws h (rw same at (all-words g)) (omega (arith, all-count g, ap length same)) t m))
 
   pub full-addressed : k ≡ n → Addressed w n ws n
   unfolding column-count
   full-addressed g = not-addressed impossible
     where
       impossible : Embedding w (column-count w) (address w) → ⊥
-      impossible m = omega (arith, o .full g, ap (λ (i : ℕ). length (opened w i)) links, ap length (opened-columns w rack (column-count w) (address w) m), few-columns w rack m)
+      impossible m =
+          omega (arith, o .full g, ap (λ (i : ℕ). length (opened w i)) links, ap length (opened-columns w rack (column-count w) (address w) m), few-columns w rack m)

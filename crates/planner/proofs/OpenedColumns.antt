@@ -29,7 +29,9 @@ module _ (w : Wiring) (rack : Rack w) (k : ℕ) (r : ℕ → ℕ → Bool) (m : 
       ∙ differ-cancel (r (l .first) (crossed y j)) (r (l .second) (crossed y j)) (r 0 (crossed y j))
     where
       bit : (c : ℕ) → c < w .cards → getD (column w y) c false ≡ differ (r c (crossed y j)) (r 0 (crossed y j))
-      bit c h = ap (λ (x : List Bool). getD x c false) (column-crossing w k r m rack y j) ∙ getD-tabulate (w .cards) (λ c. differ (r c (crossed y j)) (r 0 (crossed y j))) c false h
+      bit c h =
+          ap (λ (x : List Bool). getD x c false) (column-crossing w k r m rack y j) ∙ getD-tabulate (w .cards)
+          (λ c. differ (r c (crossed y j)) (r 0 (crossed y j))) c false h
 
   -- THE COLUMN OF A LINK separates the ends of another exactly if both have the same column
   separates-same : (l y : Link) → In l (w .links) → In y (w .links) → separates l (column w y) ≡ same-column (column w l) (column w y)

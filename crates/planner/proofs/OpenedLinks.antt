@@ -70,7 +70,8 @@ module _ {bs h ws : List ℕ} {n m i k p q d : ℕ} (x : At-link bs h ws n m i k
   ends-hamming : d ≡ hamming (length (opened w i)) (bit-in (opened w i) (l .first)) (bit-in (opened w i) (l .second))
   ends-hamming =
       x .places ∙ ap₂ (words-hamming ws) (x .first) (x .second)
-      ∙ words-hamming-columns (opened w i) n ws (x .before .words (x .room)) (omega (arith, few)) (l .first) (l .second) (x .formed .first i (x .inside)) (x .formed .second i (x .inside))
+      ∙ words-hamming-columns (opened w i) n ws (x .before .words (x .room)) (omega (arith, few)) (l .first) (l .second)
+      (x .formed .first i (x .inside)) (x .formed .second i (x .inside))
 
   ends-separated : d ≢ 0 → separated l (opened w i) ≡ true
   ends-separated z = by-bool (separated l (opened w i)) (λ e. e) (λ e. absurd (z (ends-hamming ∙ unseparated-hamming l (opened w i) e)))

@@ -104,7 +104,8 @@ module _ (bs : List ℕ) (r : Answer) (ws₀ ws₁ h₀ h₁ : List ℕ) (lw : l
       (record {
         number = p .number;
         at = p .at;
-        value = answer-value (r .number) (r .value) (column-count (file-wiring bs)) (p .value) (p .no-value) ∙ ap (λ (n : ℕ). cond (eqb n 0) (column-count (file-wiring bs)) 0) (p .number);
+        value = answer-value (r .number) (r .value) (column-count (file-wiring bs)) (p .value) (p .no-value) ∙ ap
+            (λ (n : ℕ). cond (eqb n 0) (column-count (file-wiring bs)) 0) (p .number);
       })
 
   pub plan-says-found : r .number ≡ 0 → Plan-says bs r ws₀ ws₁ h₀ h₁

@@ -85,6 +85,9 @@ module _ (bs : List ℕ) (r : Answer) (ws₀ ws h₀ h : List ℕ) (asked : Aske
         embedding = words-embed;
         measured = hops-measured;
         unique = λ k rows m.
-            let z = embedding-number k rows m in
-            (z, λ c. embedding-unique w k rows formed (asked .whole) m .1 c ∙ sym (embedding-unique w (r .value) (word-bit ws) formed (asked .whole) (words-embed z) .1 c));
+            let z = embedding-number k rows m in (
+              z,
+              λ c. embedding-unique w k rows formed (asked .whole) m .1 c ∙ sym
+                  (embedding-unique w (r .value) (word-bit ws) formed (asked .whole) (words-embed z) .1 c),
+            );
       }

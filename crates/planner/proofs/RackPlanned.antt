@@ -35,12 +35,14 @@ module _ (w : Wiring) (g : Fault) (ws h : List ℕ) where
 
   pub unreached-planned : Fault-is g (reach-refusal w) → g .number ≢ 0 → length ws ≡ lent-words → length h ≡ lent-hops → Rack-planned w (answer (g .number) (g .at) 0) ws h
   unreached-planned i n lw lh =
-      planned-refused (rack-refusal w) w (answer (g .number) (g .at) 0) ws h (refusal-of-reach w (λ z. n (i .number ∙ z)) ∙ fault-refusal g (reach-refusal w) i) n refl lw lh
+      planned-refused (rack-refusal w) w (answer (g .number) (g .at) 0) ws h
+      (refusal-of-reach w (λ z. n (i .number ∙ z)) ∙ fault-refusal g (reach-refusal w) i) n refl lw lh
 
   module _ (c : connected w ≡ true) (i : Fault-is g (parity-refusal w)) where
     pub odd-planned : g .number ≢ 0 → length ws ≡ lent-words → length h ≡ lent-hops → Rack-planned w (answer (g .number) (g .at) 0) ws h
     odd-planned n lw lh =
-        planned-refused (rack-refusal w) w (answer (g .number) (g .at) 0) ws h (refusal-of-parity w c (λ z. n (i .number ∙ z)) ∙ fault-refusal g (parity-refusal w) i) n refl lw lh
+        planned-refused (rack-refusal w) w (answer (g .number) (g .at) 0) ws h
+        (refusal-of-parity w c (λ z. n (i .number ∙ z)) ∙ fault-refusal g (parity-refusal w) i) n refl lw lh
 
     pub none-planned : (n k : ℕ) → g .number ≡ 0 → k ≡ n → Addressed w n ws k → length ws ≡ lent-words → length h ≡ lent-hops → Rack-planned w (answer 11 0 0) ws h
     none-planned n k z e a lw lh =

@@ -73,7 +73,8 @@ module _ (w : Wiring) (old new : List ℕ) (to by off : ℕ) (few : w .cards ≤
   lowered-above =
       record {
         long = p .long ∙ a .long;
-        over = λ c d hc hd. by-row (λ x. hops w c d ≤ x) c d (omega arith) (a .over c d hc hd) (λ (e : c ≡ to). rw e (omega (arith, step d, a .over to d ht hd, a .over by d hb hd)));
+        over = λ c d hc hd. by-row (λ x. hops w c d ≤ x) c d (omega arith) (a .over c d hc hd)
+            (λ (e : c ≡ to). rw e (omega (arith, step d, a .over to d ht hd, a .over by d hb hd)));
         most = λ c d hc hd. by-row (λ x. x ≤ w .cards) c d (omega arith) (a .most c d hc hd) (λ e. omega (arith, a .most to d ht hd));
         self = λ c hc. by-row (λ x. x ≡ 0) c c (omega arith) (a .self c hc) (λ e. omega (arith, a .self to ht, ap (λ (x : ℕ). cell old to x) e));
         rows = λ c d hd hc. by-row (λ x. x ≡ 0) c d hd (a .rows c d hd hc) (λ e. absurd (omega arith));

@@ -62,7 +62,8 @@ module _ (w : Wiring) (ws : List ℕ) (words : Words-of (columns w) (w .cards) w
   unfolding address-bytes
   addresses-written =
       blocks-ext (w .cards) (λ c. tabulate (address-size (column-count w)) (word-byte ws c)) (λ c. address-bytes (column-count w) (address w c))
-      (λ c hc. tabulate-ext (address-size (column-count w)) (word-byte ws c) (λ t. bits-value 8 (λ i. address w c (8 * t + i))) (λ t ht. byte-written c t hc (omega (arith, size-few))))
+      (λ c hc. tabulate-ext (address-size (column-count w)) (word-byte ws c) (λ t. bits-value 8 (λ i. address w c (8 * t + i)))
+      (λ t ht. byte-written c t hc (omega (arith, size-few))))
 
 -- THE PLAN
 plan-bytes-written : (bs ws : List ℕ) (k : ℕ) → k ≡ column-count (file-wiring bs) → k ≤ 255 → Words-of (columns (file-wiring bs)) (file-wiring bs .cards) ws
@@ -78,7 +79,8 @@ at-zero bs h =
     let c = file-clear bs h in
     let a = wiring-accepted (file-wiring bs) (omega (arith, c .0 .some, wiring-at-cards 4 bs)) (c .1) in
     let links = or-else-clear (links-refusal (file-wiring bs)) (rack-refusal (file-wiring bs)) (c .1) .0 in
-    ap (λ (f : Refusal). f .at) (refusal-of-rack bs (sized-clear bs (c .0)) links ∙ embedding-accepted (file-wiring bs) (a .rack) (column-count (file-wiring bs)) (address (file-wiring bs)) (a .embedding))
+    ap (λ (f : Refusal). f .at) (refusal-of-rack bs (sized-clear bs (c .0)) links ∙ embedding-accepted (file-wiring bs) (a .rack)
+    (column-count (file-wiring bs)) (address (file-wiring bs)) (a .embedding))
 
 -- WRITING into a buffer of another length
 pub write-says-one : (bs : List ℕ) (r : Answer) (o : List ℕ) → length o ≢ lent-plan → r .number ≡ 1 → r .at ≡ 0 → r .value ≡ 0 → Write-says bs r o o
@@ -96,7 +98,8 @@ module _ (bs : List ℕ) (r : Answer) (ws h o : List ℕ) (lo : length o ≡ len
   write-says-refused out n e =
       let z : file-refusal bs .number ≢ 0 = λ y. n (p .number ∙ y) in
       record {
-        answer = rw (eq-eqb (length o) lent-plan lo) (record { number = p .number; at = p .at; value = p .no-value n ∙ sym (rw (ne-eqb (file-refusal bs .number) 0 z) refl) });
+        answer = rw (eq-eqb (length o) lent-plan lo)
+            (record { number = p .number; at = p .at; value = p .no-value n ∙ sym (rw (ne-eqb (file-refusal bs .number) 0 z) refl) });
         output-left = e ∙ sym (left-zero (r .number) (plan-bytes (file-wiring bs)) o n (λ y. file-not-one bs (sym (p .number) ∙ y)));
       }
 
@@ -107,7 +110,15 @@ module _ (bs : List ℕ) (r : Answer) (ws h o : List ℕ) (lo : length o ≡ len
     pub written-sizes : (n m : ℕ) → n ≡ number-at bs 0 → m ≡ number-at bs 2 → Sizes-are bs n m
     written-sizes n m en em =
         let c = file-clear bs accepted .0 in
-        record { cards = en; links = em; some = omega (arith, c .some); few = omega (arith, c .cards); few-links = omega (arith, c .links); long = omega (arith, c .long) }
+        record {
+          cards = en;
+          links = em;
+          some = omega (arith, c .some);
+          few = omega (arith, c .cards);
+          few-links = omega
+              (arith, c .links);
+          long = omega (arith, c .long);
+        }
 
     pub columns-few : r .value ≤ 255
     columns-few =
@@ -122,6 +133,11 @@ module _ (bs : List ℕ) (r : Answer) (ws h o : List ℕ) (lo : length o ≡ len
         let same = plan-bytes-written bs ws (r .value) (p .value z) columns-few (p .words z) in
         record {
           answer = rw (eq-eqb (length o) lent-plan lo)
-              (record { number = sym accepted; at = sym (at-zero bs accepted); value = e ∙ ap length same ∙ sym (rw (eq-eqb (file-refusal bs .number) 0 accepted) refl) });
+              (record {
+                number = sym accepted;
+                at = sym (at-zero bs accepted);
+                value = e ∙ ap length same ∙ sym
+                    (rw (eq-eqb (file-refusal bs .number) 0 accepted) refl);
+              });
           output-left = left-filled 0 (plan-bytes (file-wiring bs)) o out refl l (rw same at (w .is));
         }

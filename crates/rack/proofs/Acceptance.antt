@@ -54,7 +54,8 @@ module _ (w : Wiring) where
   unfolding parity-refusal
   embedding-parity rack k r m =
       lowest-fault-none (link-count w) (λ i. cond (eqb (hops w 0 (link-at w i .first)) (hops w 0 (link-at w i .second))) 10 0)
-      (λ i h. rw (ne-eqb (hops w 0 (link-at w i .first)) (hops w 0 (link-at w i .second)) (ends-differ w k r m rack (link-at w i) (in-getD (w .links) i (link 0 0) h))) refl)
+      (λ i h. rw (ne-eqb (hops w 0 (link-at w i .first)) (hops w 0 (link-at w i .second))
+      (ends-differ w k r m rack (link-at w i) (in-getD (w .links) i (link 0 0) h))) refl)
 
   -- 11
   embedding-clear : embedding-refusal w .number ≡ 0 → Embedding w (column-count w) (address w)

@@ -50,4 +50,8 @@ pub clear-file : (bs : List ℕ) → sizes-fault bs ≡ 0 → wiring-refusal (fi
 unfolding file-refusal form-refusal wiring-refusal
 clear-file bs z h =
     let c = or-else-clear (links-refusal (file-wiring bs)) (rack-refusal (file-wiring bs)) h in
-    rw (or-else-second (refusal (sizes-fault bs) 0) (links-refusal (file-wiring bs)) z, or-else-second (links-refusal (file-wiring bs)) (rack-refusal (file-wiring bs)) (c .0)) (c .1)
+    rw (
+      or-else-second (refusal (sizes-fault bs) 0) (links-refusal (file-wiring bs)) z,
+      or-else-second (links-refusal (file-wiring bs))
+          (rack-refusal (file-wiring bs)) (c .0),
+    ) (c .1)

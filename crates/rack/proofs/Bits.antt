@@ -116,7 +116,12 @@ bits-value-more (suc n) f g zero l h e =
     rw h (omega (arith, mul-one (one (g 0)), bits-value-ext n (λ i. f (suc i)) (λ i. g (suc i)) (λ j m. e (suc j) (omega arith) (λ z. omega arith))))
 bits-value-more (suc n) f g (suc i) l h e =
     rw (e 0 (omega arith) (λ z. omega arith))
-    (omega (arith, doubled (one (g (suc i))) i, bits-value-more n (λ i. f (suc i)) (λ i. g (suc i)) i (omega arith) h (λ j m u. e (suc j) (omega arith) (λ z. u (omega arith)))))
+    (omega (
+      arith,
+      doubled (one (g (suc i))) i,
+      bits-value-more n (λ i. f (suc i)) (λ i. g (suc i)) i (omega arith) h
+          (λ j m u. e (suc j) (omega arith) (λ z. u (omega arith))),
+    ))
 
 one-le : (b : Bool) → one b ≤ 1
 one-le true = omega arith

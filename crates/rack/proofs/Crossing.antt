@@ -102,8 +102,10 @@ module _ (w : Wiring) (k : ℕ) (r : ℕ → ℕ → Bool) (m : Embedding w k r)
     unfolding nearer-first
     nearer-crossing c h =
         by-bool (differ (r c (link-crossing .at)) (r (l .first) (link-crossing .at)))
-        (λ e. le-ltb (hops w c (l .first)) (hops w c (l .second)) (omega (arith, further-back (l .first) (l .second) (ends .0) (ends .1) link-crossing c h e)) ∙ sym (ap not e))
-        (λ e. lt-ltb (hops w c (l .first)) (hops w c (l .second)) (omega (arith, further (l .first) (l .second) (ends .0) (ends .1) link-crossing c h e)) ∙ sym (ap not e))
+        (λ e. le-ltb (hops w c (l .first)) (hops w c (l .second))
+        (omega (arith, further-back (l .first) (l .second) (ends .0) (ends .1) link-crossing c h e)) ∙ sym (ap not e))
+        (λ e. lt-ltb (hops w c (l .first)) (hops w c (l .second))
+        (omega (arith, further (l .first) (l .second) (ends .0) (ends .1) link-crossing c h e)) ∙ sym (ap not e))
 
     side-crossing : (c : ℕ) → c < w .cards → side w l c ≡ differ (r c (link-crossing .at)) (r 0 (link-crossing .at))
     unfolding side

@@ -26,7 +26,8 @@ unfolding side nearer-first
 side-ends w rack l i =
     differ-cancel (nearer-first w l (l .first)) (nearer-first w l (l .second)) (nearer-first w l 0)
     ∙ rw (
-      lt-ltb (hops w (l .first) (l .first)) (hops w (l .first) (l .second)) (omega (arith, hops-self w (l .first), hops-one w rack (l .first) (l .second) (link-joins w l i))),
+      lt-ltb (hops w (l .first) (l .first)) (hops w (l .first) (l .second))
+          (omega (arith, hops-self w (l .first), hops-one w rack (l .first) (l .second) (link-joins w l i))),
       le-ltb (hops w (l .second) (l .first)) (hops w (l .second) (l .second)) (omega (arith, hops-self w (l .second))),
     ) refl
 
@@ -93,7 +94,8 @@ module _ (w : Wiring) (rack : Rack w) (k : ℕ) (r : ℕ → ℕ → Bool) (m : 
       go n p ih =
           by-bool (differ (r v j) (r (parent v) j))
           (λ t. let s : suc (v - 1) ≡ v = omega arith in
-          subst (λ (x : ℕ). In x all-crossed) (ap (λ (u : ℕ). crossed u) s ∙ crossed-is v j hv n h t) (in-tabulate (w .cards - 1) (λ i. crossed (suc i)) (v - 1) (omega arith)))
+          subst (λ (x : ℕ). In x all-crossed) (ap (λ (u : ℕ). crossed u) s ∙ crossed-is v j hv n h t)
+          (in-tabulate (w .cards - 1) (λ i. crossed (suc i)) (v - 1) (omega arith)))
           (λ t. ih (p .0) (omega arith) (rw (← (differ-false (r v j) (r (parent v) j) t)) e))
 
   few : ((j : ℕ) → j < k → (v : ℕ) × (v < w .cards) × (differ (r v j) (r 0 j) ≡ true)) → k + 1 ≤ w .cards

@@ -52,5 +52,6 @@ hamming-cut x y k l h =
     let u = number-bit (x % 2 ^ k) in
     let v = number-bit (y % 2 ^ k) in
     ap (λ (n : ℕ). hamming n u v) e ∙ hamming-add k (l - k) u v
-    ∙ ap₂ _+_ (hamming-ext k u v (number-bit x) (number-bit y) (number-bit-low x k) (number-bit-low y k)) (hamming-same (l - k) (λ i. u (k + i)) (λ i. v (k + i)) (λ j i. cut-bit x k j ∙ sym (cut-bit y k j)))
+    ∙ ap₂ _+_ (hamming-ext k u v (number-bit x) (number-bit y) (number-bit-low x k) (number-bit-low y k))
+    (hamming-same (l - k) (λ i. u (k + i)) (λ i. v (k + i)) (λ j i. cut-bit x k j ∙ sym (cut-bit y k j)))
     ∙ omega arith

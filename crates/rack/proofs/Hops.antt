@@ -120,7 +120,8 @@ module _ (w : Wiring) where
   unfolding connected unreached
   zero-connected h =
       eq-eqb (unreached w) (w .cards)
-      (lowest-is (w .cards) (λ c. eqb (hops w 0 c) (w .cards)) (w .cards) (omega arith) (λ c l. ne-eqb (hops w 0 c) (w .cards) (λ e. omega (arith, h c l))) (λ l. absurd (omega arith)))
+      (lowest-is (w .cards) (λ c. eqb (hops w 0 c) (w .cards)) (w .cards) (omega arith)
+      (λ c l. ne-eqb (hops w 0 c) (w .cards) (λ e. omega (arith, h c l))) (λ l. absurd (omega arith)))
 
   pub connected-all : connected w ≡ true → (a b : ℕ) → a < w .cards → b < w .cards → hops w a b < w .cards
   connected-all h a b ha hb =

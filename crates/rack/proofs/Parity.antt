@@ -20,7 +20,8 @@ unfolding parity-refusal
 parity-clear w h i l =
     let p = hops w 0 (link-at w i .first) in
     let q = hops w 0 (link-at w i .second) in
-    eqb-false p q (cond-zero (eqb p q) 10 0 (λ e. omega arith) (lowest-fault-clear (link-count w) (λ i. cond (eqb (hops w 0 (link-at w i .first)) (hops w 0 (link-at w i .second))) 10 0) h i l) .0)
+    eqb-false p q (cond-zero (eqb p q) 10 0 (λ e. omega arith)
+    (lowest-fault-clear (link-count w) (λ i. cond (eqb (hops w 0 (link-at w i .first)) (hops w 0 (link-at w i .second))) 10 0) h i l) .0)
 
 module _ (w : Wiring) (rack : Rack w) (even : parity-refusal w .number ≡ 0) where
   levels-differ : (a b : ℕ) → linked w a b ≡ true → hops w 0 a ≢ hops w 0 b

@@ -103,7 +103,8 @@ unfolding File-as-wiring form-refusal file-refusal well-formed
 file-as-wiring bs h =
     let a = or-else-clear (refusal (sizes-fault bs) 0) (links-refusal (file-wiring bs)) h in
     let z = sizes-clear bs (a .0) in (
-      and-both (leb 1 (file-wiring bs .cards)) (eqb (links-refusal (file-wiring bs) .number) 0) (le-leb 1 (file-wiring bs .cards) (omega (arith, wiring-at-cards 4 bs, z .some))) (eq-eqb (links-refusal (file-wiring bs) .number) 0 (a .1)),
+      and-both (leb 1 (file-wiring bs .cards)) (eqb (links-refusal (file-wiring bs) .number) 0)
+          (le-leb 1 (file-wiring bs .cards) (omega (arith, wiring-at-cards 4 bs, z .some))) (eq-eqb (links-refusal (file-wiring bs) .number) 0 (a .1)),
       or-else-second (form-refusal bs) (rack-refusal (file-wiring bs)) h,
       λ b. file-wiring-bytes bs b z,
     )

@@ -43,7 +43,8 @@ module _ (n : ℕ) (f : ℕ → ℕ) where
   pub lowest-fault-none : ((i : ℕ) → i < n → f i ≡ 0) → lowest-fault n f ≡ refusal 0 0
   unfolding lowest-fault
   lowest-fault-none h =
-      let e : lowest n (λ i. not (eqb (f i) 0)) ≡ n = lowest-is n (λ i. not (eqb (f i) 0)) n (omega arith) (λ i l. rw (eq-eqb (f i) 0 (h i l)) refl) (λ l. absurd (omega arith)) in
+      let e : lowest n (λ i. not (eqb (f i) 0)) ≡ n = lowest-is n (λ i. not (eqb (f i) 0)) n (omega arith) (λ i l. rw (eq-eqb (f i) 0 (h i l)) refl)
+      (λ l. absurd (omega arith)) in
       rw (e, le-ltb n n (omega arith)) refl
 
   pub lowest-fault-is : (i : ℕ) → i < n → ((j : ℕ) → j < i → f j ≡ 0) → f i ≢ 0 → lowest-fault n f ≡ refusal (f i) i
@@ -57,7 +58,8 @@ module _ (n : ℕ) (f : ℕ → ℕ) where
   unfolding lowest-fault
   lowest-fault-clear h i l =
       by-lt (lowest n (λ i. not (eqb (f i) 0))) n
-      (λ k. absurd (eqb-false (f (lowest n (λ i. not (eqb (f i) 0)))) 0 (not-true (eqb (f (lowest n (λ i. not (eqb (f i) 0)))) 0) (lowest-passes n (λ i. not (eqb (f i) 0)) k))
+      (λ k. absurd (eqb-false (f (lowest n (λ i. not (eqb (f i) 0)))) 0
+      (not-true (eqb (f (lowest n (λ i. not (eqb (f i) 0)))) 0) (lowest-passes n (λ i. not (eqb (f i) 0)) k))
       (rw (lt-ltb (lowest n (λ i. not (eqb (f i) 0))) n k) at h)))
       (λ k. eqb-true (f i) 0 (not-false (eqb (f i) 0) (lowest-first n (λ i. not (eqb (f i) 0)) i (omega arith))))
 
@@ -84,8 +86,12 @@ link-fault-clear w i h =
     let p = link-at w i .first in
     let q = link-at w i .second in
     let c₆ = cond-zero (leb (w .cards) p || leb (w .cards) q) 6 _ (λ e. omega arith) h in
-    let c₇ = cond-zero (eqb p q) 7 _ (λ e. omega arith) (c₆ .1) in
-    (leb-false (w .cards) p (nor-left (leb (w .cards) p) (leb (w .cards) q) (c₆ .0)), leb-false (w .cards) q (nor-right (leb (w .cards) p) (leb (w .cards) q) (c₆ .0)), eqb-false p q (c₇ .0))
+    let c₇ = cond-zero (eqb p q) 7 _ (λ e. omega arith) (c₆ .1) in (
+      leb-false (w .cards) p (nor-left (leb (w .cards) p) (leb (w .cards) q) (c₆ .0)),
+      leb-false (w .cards) q
+          (nor-right (leb (w .cards) p) (leb (w .cards) q) (c₆ .0)),
+      eqb-false p q (c₇ .0),
+    )
 
 pub link-fault-few : (w : Wiring) (i : ℕ) → link-fault w i ≡ 0 → count (joins (link-at w i .first) (link-at w i .second)) (take i (w .links)) < most-parallel
 unfolding link-fault

@@ -75,7 +75,8 @@ count-range-add p zero n =
 count-range-add p (suc m) n =
     let e : suc m + n ≡ suc (m + n) = omega arith in
     rw (e, count-tabulate p (m + n) suc, count-range-add (λ i. p (suc i)) m n, count-tabulate p m suc)
-    (ap (λ (x : ℕ). one (p 0) + (count (λ i. p (suc i)) (range m) + x)) (count-ext (λ i. p (suc (m + i))) (λ i. p (suc m + i)) (range n) (λ i h. ap p (omega arith))) ∙ omega arith)
+    (ap (λ (x : ℕ). one (p 0) + (count (λ i. p (suc i)) (range m) + x))
+    (count-ext (λ i. p (suc (m + i))) (λ i. p (suc m + i)) (range n) (λ i h. ap p (omega arith))) ∙ omega arith)
 
 -- BLOCKS of equal length
 pub length-blocks : {A : Type 0} (n b : ℕ) (f : ℕ → List A) → ((i : ℕ) → length (f i) ≡ b) → length (blocks n f) ≡ n * b
@@ -103,7 +104,8 @@ blocks-add zero n f =
 blocks-add (suc m) n f =
     let e : suc m + n ≡ suc (m + n) = omega arith in
     rw e
-    (ap (λ (t : List _). f 0 ++ t) (blocks-add m n (λ i. f (suc i)) ∙ ap (λ (t : List _). blocks m (λ i. f (suc i)) ++ t) (blocks-ext n (λ i. f (suc (m + i))) (λ i. f (suc m + i)) (λ i h. ap f (omega arith))))
+    (ap (λ (t : List _). f 0 ++ t) (blocks-add m n (λ i. f (suc i)) ∙ ap (λ (t : List _). blocks m (λ i. f (suc i)) ++ t)
+    (blocks-ext n (λ i. f (suc (m + i))) (λ i. f (suc m + i)) (λ i h. ap f (omega arith))))
     ∙ sym (append-assoc (f 0) (blocks m (λ i. f (suc i))) (blocks n (λ i. f (suc m + i)))))
 
 -- THE LOWEST NUMBER that passes a test

@@ -90,7 +90,8 @@ module _ (w : Wiring) (rack : Rack w) (k : ℕ) (r : ℕ → ℕ → Bool) (m : 
 
       go : Changes w (λ c. not (differ (r c j) (r a j))) → Crosser j
       go (p, q, e, hp, hq) =
-          ends p q (rw (differ-false (r p j) (r a j) (not-true (differ (r p j) (r a j)) hp)) (differ-sym (r a j) (r q j) ∙ not-false (differ (r q j) (r a j)) hq)) (linked-link w p q e)
+          ends p q (rw (differ-false (r p j) (r a j) (not-true (differ (r p j) (r a j)) hp))
+          (differ-sym (r a j) (r q j) ∙ not-false (differ (r q j) (r a j)) hq)) (linked-link w p q e)
 
   crosses-at : (j : ℕ) → j < k → (c : Crosser j) → link-crossing w k r m rack (c .0) (c .1) .at ≡ j
   crosses-at j h c = crossing-only (link-crossing w k r m rack (c .0) (c .1)) j h (c .2)
@@ -151,7 +152,8 @@ module _ (w : Wiring) (rack : Rack w) (k : ℕ) (r : ℕ → ℕ → Bool) (m : 
   in-reduced y i =
       let x = in-relative y i in
       subst (λ (y : List Bool). In y (map image (filter varying (range k)))) (image-relative (x .0) ∙ x .3)
-      (in-map image (filter varying (range k)) (x .0) (in-filter varying (range k) (x .0) (in-range k (x .0) (x .1)) (ap not (varies-inconstant (w .cards) r (x .0) (x .2)))))
+      (in-map image (filter varying (range k)) (x .0)
+      (in-filter varying (range k) (x .0) (in-range k (x .0) (x .1)) (ap not (varies-inconstant (w .cards) r (x .0) (x .2)))))
 
   reduced-distinct : Distinct (reduced-columns (w .cards) k r)
   unfolding reduced-columns
@@ -166,11 +168,21 @@ module _ (w : Wiring) (rack : Rack w) (k : ℕ) (r : ℕ → ℕ → Bool) (m : 
   -- and so as many of either kind pass any test
   pub reduced-count : (p : List Bool → Bool) → count p (reduced-columns (w .cards) k r) ≡ count p (columns w)
   reduced-count p =
-      omega (arith, count-le p (reduced-columns (w .cards) k r) (columns w) reduced-distinct reduced-in, count-le p (columns w) (reduced-columns (w .cards) k r) (columns-distinct w) in-reduced)
+      omega (
+        arith,
+        count-le p (reduced-columns (w .cards) k r) (columns w) reduced-distinct reduced-in,
+        count-le p (columns w)
+            (reduced-columns (w .cards) k r) (columns-distinct w) in-reduced,
+      )
 
   pub reduced-length : length (reduced-columns (w .cards) k r) ≡ length (columns w)
   reduced-length =
-      omega (arith, length-le (reduced-columns (w .cards) k r) (columns w) reduced-distinct reduced-in, length-le (columns w) (reduced-columns (w .cards) k r) (columns-distinct w) in-reduced)
+      omega (
+        arith,
+        length-le (reduced-columns (w .cards) k r) (columns w) reduced-distinct reduced-in,
+        length-le (columns w)
+            (reduced-columns (w .cards) k r) (columns-distinct w) in-reduced,
+      )
 
   -- two cards differ in as many reduced columns as places of their rows
   reduced-hamming : (a b : ℕ) → a < w .cards → b < w .cards → count (λ c. differ (getD c a false) (getD c b false)) (reduced-columns (w .cards) k r) ≡ hamming k (r a) (r b)

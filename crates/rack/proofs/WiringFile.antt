@@ -111,7 +111,8 @@ pub file-bytes-wiring : (w : Wiring) → Fits w → file-wiring (file-bytes w) �
 unfolding file-bytes number-at two-bytes
 file-bytes-wiring w f =
     ap (wiring-at 4) (sym (append-nil (two-bytes (w .cards) ++ two-bytes (link-count w) ++ end-bytes w)))
-    ∙ wiring-at-written w f (two-bytes (w .cards) ++ two-bytes (link-count w)) [] 4 refl (two-bytes-value (w .cards) (f .cards)) (two-bytes-value (link-count w) (f .count))
+    ∙ wiring-at-written w f (two-bytes (w .cards) ++ two-bytes (link-count w)) [] 4 refl (two-bytes-value (w .cards) (f .cards))
+    (two-bytes-value (link-count w) (f .count))
 
 -- A WIRING FILE by its sizes
 pub wiring-at-cards : (base : ℕ) (bs : List ℕ) → wiring-at base bs .cards ≡ number-at bs 0
@@ -197,7 +198,8 @@ module _ (bs : List ℕ) (bytes : all (λ b. ltb b 256) bs ≡ true) where
   pairs-take zero p h = refl
   pairs-take (suc k) p h =
       ap₂ _++_ (ap (λ (q : ℕ). two-bytes (number-at bs q)) (omega arith))
-      (blocks-ext k _ (λ i. two-bytes (number-at bs ((p + 2) + 2 * i))) (λ i l. ap (λ (q : ℕ). two-bytes (number-at bs q)) (omega arith)) ∙ pairs-take k (p + 2) (omega arith))
+      (blocks-ext k _ (λ i. two-bytes (number-at bs ((p + 2) + 2 * i))) (λ i l. ap (λ (q : ℕ). two-bytes (number-at bs q)) (omega arith))
+      ∙ pairs-take k (p + 2) (omega arith))
       ∙ sym (pair-take k p h)
 
   four : 4 ≤ length bs → bs ≡ two-bytes (number-at bs 0) ++ two-bytes (number-at bs 2) ++ drop 4 bs

@@ -61,8 +61,16 @@ module _ (ps : List ℕ) (c : ℕ) (r : Sizes) (s : Read-says ps r) where
         address-below h = omega (arith, cards-answered)
 
     pub address-inside : c < r .cards
-        → (take (6 + 4 * r .links + c * ((r .columns + 7) / 8) + (r .columns + 7) / 8 - (6 + 4 * r .links + c * ((r .columns + 7) / 8))) (drop (6 + 4 * r .links + c * ((r .columns + 7) / 8)) ps) ≡ address-part ps c)
+        → (take (6 + 4 * r .links + c * ((r .columns + 7) / 8) + (r .columns + 7) / 8 - (6 + 4 * r .links + c * ((r .columns + 7) / 8)))
+        (drop (6 + 4 * r .links + c * ((r .columns + 7) / 8)) ps) ≡ address-part ps c)
         × (r .number ≡ address-refusal ps c)
     unfolding address-part address-refusal address-size
     address-inside h =
-        rw (eq-eqb (plan-refusal ps) 0 read, lt-leb (plan-cards ps) c (omega (arith, cards-answered)), add-sub-cancel-left, ← links-answered, ← columns-answered) (refl, e)
+        rw (
+          eq-eqb (plan-refusal ps) 0 read,
+          lt-leb (plan-cards ps) c
+              (omega (arith, cards-answered)),
+          add-sub-cancel-left,
+          ← links-answered,
+          ← columns-answered,
+        ) (refl, e)

@@ -53,7 +53,8 @@ module _ (ps : List ℕ) (z : Layout ps) where
       (ap (wiring (number-at ps 0)) (tabulate-ext (plan-links ps) _ _ ends))
     where
       ends : (i : ℕ) → i < plan-links ps
-          → link (number-at (inner-file ps) (4 + 2 * i)) (number-at (inner-file ps) (4 + 2 * plan-links ps + 2 * i)) ≡ link (number-at ps (6 + 2 * i)) (number-at ps (6 + 2 * plan-links ps + 2 * i))
+          → link (number-at (inner-file ps) (4 + 2 * i)) (number-at (inner-file ps) (4 + 2 * plan-links ps + 2 * i)) ≡ link (number-at ps (6 + 2 * i))
+          (number-at ps (6 + 2 * plan-links ps + 2 * i))
       ends i h =
           let e : 4 + 2 * plan-links ps + 2 * i ≡ 4 + (2 * plan-links ps + 2 * i) = omega arith in
           let f : 6 + (2 * plan-links ps + 2 * i) ≡ 6 + 2 * plan-links ps + 2 * i = omega arith in

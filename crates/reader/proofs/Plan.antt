@@ -76,8 +76,12 @@ module _ (ps : List ℕ) where
       let b = cond-zero (not (content-holds ps)) 13 0 (λ e. omega arith) (a .1) in
       let t = not-false (content-holds ps) (b .0) in
       let number-test = eqb (wiring-refusal (plan-wiring ps) .number) 0 in
-      let bytes-test = same eqb (plan-bytes (plan-wiring ps)) ps in
-      (not-false (layout-holds ps) (a .0), eqb-true (wiring-refusal (plan-wiring ps) .number) 0 (and-left number-test bytes-test t), same-eq eqb eqb-true (plan-bytes (plan-wiring ps)) ps (and-right number-test bytes-test t))
+      let bytes-test = same eqb (plan-bytes (plan-wiring ps)) ps in (
+        not-false (layout-holds ps) (a .0),
+        eqb-true (wiring-refusal (plan-wiring ps) .number) 0
+            (and-left number-test bytes-test t),
+        same-eq eqb eqb-true (plan-bytes (plan-wiring ps)) ps (and-right number-test bytes-test t),
+      )
 
   pub clear-plan : layout-holds ps ≡ true → wiring-refusal (plan-wiring ps) .number ≡ 0 → plan-bytes (plan-wiring ps) ≡ ps → plan-refusal ps ≡ 0
   unfolding plan-refusal content-holds

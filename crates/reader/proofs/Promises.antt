@@ -97,7 +97,8 @@ written-read bs h =
     let c = file-clear bs h in
     let z = c .0 in
     let n = wiring-at-cards 4 bs in
-    plan-read (file-wiring bs) (wiring-accepted (file-wiring bs) (omega (arith, z .some)) (c .1)) (omega (arith, z .cards)) (omega (arith, z .links, wiring-at-count 4 bs)) (c .1)
+    plan-read (file-wiring bs) (wiring-accepted (file-wiring bs) (omega (arith, z .some)) (c .1)) (omega (arith, z .cards))
+    (omega (arith, z .links, wiring-at-count 4 bs)) (c .1)
 
 pub read-exactly : Read-exactly
 unfolding Read-exactly

@@ -87,7 +87,8 @@ module _ (ps bs : List ℕ) (l : layout-holds ps ≡ true) (cut : bs ≡ inner-f
 
     pub content-as-compared : a .value ≡ length ps → (t : Bool) → t ≡ same eqb (take (length ps) out) ps → content-holds ps ≡ t
     content-as-compared e t g =
-        bytes-decide ∙ sym (g ∙ ap (λ (xs : List ℕ). same eqb xs ps) (ap (take (length ps)) written ∙ take-at plan (replicate (length o - length plan) 0) (length ps) (sym length-answered ∙ e)))
+        bytes-decide ∙ sym (g ∙ ap (λ (xs : List ℕ). same eqb xs ps)
+        (ap (take (length ps)) written ∙ take-at plan (replicate (length o - length plan) 0) (length ps) (sym length-answered ∙ e)))
 
 -- what the forwarder may lean on
 pub read-promise : (ps : List ℕ) (r : Sizes) → Read-says ps r → r .number ≡ 0 → Measured ps

@@ -20,29 +20,49 @@ same-length c = search needs
 
 returns : tie.Need-returns
 returns c =
-    let s = c .before .before .before .before .before .before .before .before .before .before in
-    full-addressed _ (formed-rack _ _ _ (s .pre .0) (s .pre .1)) _ _ _ _ _ (sym (formed-cards _ _ _ (s .pre .0))) (sym (formed-count _ _ _ (s .pre .0))) (s .pre .0 .sizes .few) (s .pre .2) (c .before .before .before .open-columns .ensures) (c .if1 .taken)
+    let at-open-columns = c .before .before .before in
+    let at-pre = at-open-columns .before .before .before .before .before .before .before in
+    full-addressed _ (formed-rack _ _ _ (at-pre .pre .0) (at-pre .pre .1)) _ _ _ _ _
+    (sym (formed-cards _ _ _ (at-pre .pre .0))) (sym (formed-count _ _ _ (at-pre .pre .0))) (at-pre .pre .0 .sizes .few)
+    (at-pre .pre .2) (at-open-columns .open-columns .ensures) (c .if1 .taken)
 
 pairs-measure-requires : tie.Need-pairs-measure-requires
 pairs-measure-requires c κs =
-    let s = c .before .before .before .before .before .before .before .before .before .before .before .before in
-    (c .before .before .before .before .before .before .before .before .ones-table .ensures, c .before .before .before .before .before .open-columns .kept .1 .1 .1 .1 .1 .0 ∙ ap length (s .pre .3) ∙ length-replicate {A = ℕ} 1024 0, s .pre .2 .long, s .pre .0 .sizes .few)
+    let at-open-columns = c .before .before .before .before .before in
+    let at-ones-table = at-open-columns .before .before .before in
+    let at-pre = at-ones-table .before .before .before .before in (
+      at-ones-table .ones-table .ensures,
+      at-open-columns .open-columns .kept .1 .1 .1 .1 .1 .0 ∙ ap length (at-pre .pre .3)
+          ∙ length-replicate {A = ℕ} 1024 0,
+      at-pre .pre .2 .long,
+      at-pre .pre .0 .sizes .few,
+    )
 
 same-length-2 : tie.Need-same-length-2
 same-length-2 c = search needs
 
 returns-2 : tie.Need-returns-2
 returns-2 c =
-    let s = c .before .before .before .before .before .before .before .before .before .before .before .before .before .before in
-    measured-addressed _ (formed-rack _ _ _ (s .pre .0) (s .pre .1)) _ _ _ _ _ (sym (formed-cards _ _ _ (s .pre .0))) (sym (formed-count _ _ _ (s .pre .0))) (s .pre .0 .sizes .few) (s .pre .2) (c .before .before .before .before .before .before .before .open-columns .ensures) (omega (arith, c .before .before .before .before .before .before .before .open-columns .ensures .most, c .before .before .before .before .if1 .left)) (c .before .pairs-measure .ensures .0 (c .if2 .taken))
+    let at-if1 = c .before .before .before .before in
+    let at-open-columns = at-if1 .before .before .before in
+    let at-pre = at-open-columns .before .before .before .before .before .before .before in
+    measured-addressed _ (formed-rack _ _ _ (at-pre .pre .0) (at-pre .pre .1)) _ _ _ _ _
+    (sym (formed-cards _ _ _ (at-pre .pre .0))) (sym (formed-count _ _ _ (at-pre .pre .0))) (at-pre .pre .0 .sizes .few)
+    (at-pre .pre .2) (at-open-columns .open-columns .ensures)
+    (omega (arith, at-open-columns .open-columns .ensures .most, at-if1 .if1 .left)) (c .before .pairs-measure .ensures .0 (c .if2 .taken))
 
 same-length-3 : tie.Need-same-length-3
 same-length-3 c = search needs
 
 returns-3 : tie.Need-returns-3
 returns-3 c =
-    let s = c .before .before .before .before .before .before .before .before .before .before .before .before .before .before in
-    unmeasured-addressed _ (formed-rack _ _ _ (s .pre .0) (s .pre .1)) _ _ _ _ _ (sym (formed-cards _ _ _ (s .pre .0))) (sym (formed-count _ _ _ (s .pre .0))) (s .pre .0 .sizes .few) (s .pre .2) (c .before .before .before .before .before .before .before .open-columns .ensures) (omega (arith, c .before .before .before .before .before .before .before .open-columns .ensures .most, c .before .before .before .before .if1 .left)) (c .before .pairs-measure .ensures .1 (c .if2 .left))
+    let at-if1 = c .before .before .before .before in
+    let at-open-columns = at-if1 .before .before .before in
+    let at-pre = at-open-columns .before .before .before .before .before .before .before in
+    unmeasured-addressed _ (formed-rack _ _ _ (at-pre .pre .0) (at-pre .pre .1)) _ _ _ _ _
+    (sym (formed-cards _ _ _ (at-pre .pre .0))) (sym (formed-count _ _ _ (at-pre .pre .0))) (at-pre .pre .0 .sizes .few)
+    (at-pre .pre .2) (at-open-columns .open-columns .ensures)
+    (omega (arith, at-open-columns .open-columns .ensures .most, at-if1 .if1 .left)) (c .before .pairs-measure .ensures .1 (c .if2 .left))
 
 pub address-cards-spec : {M : Type 1} → statement M
 address-cards-spec =

@@ -17,8 +17,9 @@ sizes-fault-requires c κs = search needs
 
 returns : tie.Need-returns
 returns c =
-    let s = c .before .before .before .before .before in
-    sizes-planned _ _ _ (c .before .sizes-fault .result) (c .before .sizes-fault .ensures) (c .if1 .taken) (zeros-long 1024 _ (s .pre .0)) (zeros-long 65536 _ (s .pre .1))
+    let at-pre = c .before .before .before .before .before in
+    sizes-planned _ _ _ (c .before .sizes-fault .result) (c .before .sizes-fault .ensures) (c .if1 .taken)
+    (zeros-long 1024 _ (at-pre .pre .0)) (zeros-long 65536 _ (at-pre .pre .1))
 
 number-at-requires : tie.Need-number-at-requires
 number-at-requires c κs = omega (arith, sizes-clear _ (sym (c .before .sizes-fault .ensures) ∙ c .if1 .left) .head)
@@ -28,26 +29,45 @@ number-at-requires-2 c κs = omega (arith, sizes-clear _ (sym (c .before .before
 
 links-fault-requires : tie.Need-links-fault-requires
 links-fault-requires c κs =
-    let s = c .before .before .before .before .before .before .before .before in
-    (sizes-are _ _ _ (sym (c .before .before .before .before .sizes-fault .ensures) ∙ c .before .before .before .if1 .left) (c .before .before .number-at .ensures .0) (c .before .number-at2 .ensures .0), s .pre .1)
+    let at-if1 = c .before .before .before in
+    let at-sizes-fault = at-if1 .before in
+    let at-pre = at-sizes-fault .before .before .before .before in (
+      sizes-are _ _ _ (sym (at-sizes-fault .sizes-fault .ensures) ∙ at-if1 .if1 .left)
+          (c .before .before .number-at .ensures .0) (c .before .number-at2 .ensures .0),
+      at-pre .pre .1,
+    )
 
 same-length : tie.Need-same-length
 same-length c = search needs
 
 returns-2 : tie.Need-returns-2
 returns-2 c =
-    let s = c .before .before .before .before .before .before .before .before .before .before .before .before .before in
-    links-planned _ _ _ (sym (c .before .before .before .before .before .before .before .before .before .sizes-fault .ensures) ∙ c .before .before .before .before .before .before .before .before .if1 .left) (c .before .before .before .before .links-fault .result) (c .before .before .before .before .links-fault .ensures .0) (c .if2 .taken) (zeros-long 1024 _ (s .pre .0)) (c .before .before .before .before .links-fault .ensures .1)
+    let at-links-fault = c .before .before .before .before in
+    let at-if1 = at-links-fault .before .before .before .before in
+    let at-sizes-fault = at-if1 .before in
+    let at-pre = at-sizes-fault .before .before .before .before in
+    links-planned _ _ _ (sym (at-sizes-fault .sizes-fault .ensures) ∙ at-if1 .if1 .left)
+    (at-links-fault .links-fault .result) (at-links-fault .links-fault .ensures .0) (c .if2 .taken)
+    (zeros-long 1024 _ (at-pre .pre .0)) (at-links-fault .links-fault .ensures .1)
 
 clear-bytes-requires : tie.Need-clear-bytes-requires
 clear-bytes-requires c κs = search needs
 
 plan-formed-requires : tie.Need-plan-formed-requires
 plan-formed-requires c κs =
-    let s = c .before .before .before .before .before .before .before .before .before .before .before .before .before .before .before .before .before .before .before in (
-      links-formed _ [] [] (sym (c .before .before .before .before .before .before .before .before .before .before .before .before .before .before .before .sizes-fault .ensures) ∙ c .before .before .before .before .before .before .before .before .before .before .before .before .before .before .if1 .left) (c .before .before .before .before .before .before .before .before .before .before .links-fault .result) (c .before .before .before .before .before .before .before .before .before .before .links-fault .ensures .0) _ _ (c .before .before .before .before .before .before .before .before .before .before .before .before .before .number-at .ensures .0) (c .before .before .before .before .before .before .before .before .before .before .before .before .number-at2 .ensures .0) (c .before .before .before .before .before .before .if2 .left),
-      s .pre .0,
-      c .before .before .before .before .clear-bytes .ensures ∙ ap (λ (k : ℕ). replicate k 0) (c .before .before .before .before .before .before .before .before .before .before .links-fault .ensures .1),
+    let at-clear-bytes = c .before .before .before .before in
+    let at-if2 = at-clear-bytes .before .before in
+    let at-links-fault = at-if2 .before .before .before .before in
+    let at-number-at2 = at-links-fault .before .before in
+    let at-number-at = at-number-at2 .before in
+    let at-if1 = at-number-at .before in
+    let at-sizes-fault = at-if1 .before in
+    let at-pre = at-sizes-fault .before .before .before .before in (
+      links-formed _ [] [] (sym (at-sizes-fault .sizes-fault .ensures) ∙ at-if1 .if1 .left)
+          (at-links-fault .links-fault .result) (at-links-fault .links-fault .ensures .0) _ _
+          (at-number-at .number-at .ensures .0) (at-number-at2 .number-at2 .ensures .0) (at-if2 .if2 .left),
+      at-pre .pre .0,
+      at-clear-bytes .clear-bytes .ensures ∙ ap (λ (k : ℕ). replicate k 0) (at-links-fault .links-fault .ensures .1),
     )
 
 same-length-2 : tie.Need-same-length-2
@@ -58,7 +78,13 @@ same-length-3 c = search needs
 
 returns-3 : tie.Need-returns-3
 returns-3 c =
-    rack-file-planned _ _ _ (sym (c .before .before .before .before .before .before .before .before .before .before .before .before .before .before .before .before .before .before .before .before .sizes-fault .ensures) ∙ c .before .before .before .before .before .before .before .before .before .before .before .before .before .before .before .before .before .before .before .if1 .left) (c .before .before .before .before .before .before .before .before .before .before .before .before .before .before .before .links-fault .result) (c .before .before .before .before .before .before .before .before .before .before .before .before .before .before .before .links-fault .ensures .0) _ (c .before .before .before .before .before .before .before .before .before .before .before .if2 .left) (c .before .before .before .before .plan-formed .ensures)
+    let at-plan-formed = c .before .before .before .before in
+    let at-if2 = at-plan-formed .before .before .before .before .before .before .before in
+    let at-links-fault = at-if2 .before .before .before .before in
+    let at-if1 = at-links-fault .before .before .before .before in
+    let at-sizes-fault = at-if1 .before in
+    rack-file-planned _ _ _ (sym (at-sizes-fault .sizes-fault .ensures) ∙ at-if1 .if1 .left)
+    (at-links-fault .links-fault .result) (at-links-fault .links-fault .ensures .0) _ (at-if2 .if2 .left) (at-plan-formed .plan-formed .ensures)
 
 pub plan-file-spec : {M : Type 1} → statement M
 plan-file-spec =

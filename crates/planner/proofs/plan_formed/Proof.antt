@@ -20,8 +20,10 @@ same-length c = search needs
 
 returns : tie.Need-returns
 returns c =
-    let s = c .before .before .before .before .before .before .before .before .before .before .before in
-    unreached-planned _ (c .before .before .before .before .reach-fault .result) _ _ (c .before .before .before .before .reach-fault .ensures .0) (c .if1 .taken) (zeros-long 1024 _ (s .pre .1)) (c .before .before .before .before .reach-fault .ensures .1)
+    let at-reach-fault = c .before .before .before .before in
+    let at-pre = at-reach-fault .before .before .before .before .before .before .before in
+    unreached-planned _ (at-reach-fault .reach-fault .result) _ _ (at-reach-fault .reach-fault .ensures .0) (c .if1 .taken)
+    (zeros-long 1024 _ (at-pre .pre .1)) (at-reach-fault .reach-fault .ensures .1)
 
 all-hops-requires : tie.Need-all-hops-requires
 all-hops-requires c κs =
@@ -37,15 +39,23 @@ same-length-2 c = search needs
 
 returns-2 : tie.Need-returns-2
 returns-2 c =
-    let s = c .before .before .before .before .before .before .before .before .before .before .before .before .before .before .before .before .before .before .before .before in
-    let g = c .before .before .before .before .before .before .before .before .before .before .before .before .before .reach-fault in
-    odd-planned _ (c .before .before .parity-fault .result) _ _ (reached _ (g .result) [] [] (g .ensures .0) (c .before .before .before .before .before .before .before .before .before .if1 .left)) (c .before .before .parity-fault .ensures) (c .if2 .taken) (zeros-long 1024 _ (s .pre .1)) (c .before .before .before .before .before .before .all-hops .ensures .long)
+    let at-all-hops = c .before .before .before .before .before .before in
+    let at-if1 = at-all-hops .before .before .before in
+    let at-reach-fault = at-if1 .before .before .before .before in
+    let at-pre = at-reach-fault .before .before .before .before .before .before .before in
+    let g = at-reach-fault .reach-fault in
+    odd-planned _ (c .before .before .parity-fault .result) _ _
+    (reached _ (g .result) [] [] (g .ensures .0) (at-if1 .if1 .left)) (c .before .before .parity-fault .ensures)
+    (c .if2 .taken) (zeros-long 1024 _ (at-pre .pre .1)) (at-all-hops .all-hops .ensures .long)
 
 address-cards-requires : tie.Need-address-cards-requires
 address-cards-requires c κs =
-    let s = c .before .before .before .before .before .before .before .before .before .before .before .before .before .before .before .before .before .before .before .before .before .before in
-    let g = c .before .before .before .before .before .before .before .before .before .before .before .before .before .before .before .reach-fault in
-    (s .pre .0, reached _ (g .result) [] [] (g .ensures .0) (c .before .before .before .before .before .before .before .before .before .before .before .if1 .left), c .before .before .before .before .before .before .before .before .all-hops .ensures, s .pre .1)
+    let at-all-hops = c .before .before .before .before .before .before .before .before in
+    let at-if1 = at-all-hops .before .before .before in
+    let at-reach-fault = at-if1 .before .before .before .before in
+    let at-pre = at-reach-fault .before .before .before .before .before .before .before in
+    let g = at-reach-fault .reach-fault in
+    (at-pre .pre .0, reached _ (g .result) [] [] (g .ensures .0) (at-if1 .if1 .left), at-all-hops .all-hops .ensures, at-pre .pre .1)
 
 same-length-3 : tie.Need-same-length-3
 same-length-3 c = search needs
@@ -55,12 +65,25 @@ same-length-4 c = search needs
 
 returns-3 : tie.Need-returns-3
 returns-3 c =
-    let s = c .before .before .before .before .before .before .before .before .before .before .before .before .before .before .before .before .before .before .before .before .before .before .before .before .before .before in
-    let g = c .before .before .before .before .before .before .before .before .before .before .before .before .before .before .before .before .before .before .before .reach-fault in
-    none-planned _ (c .before .before .before .before .before .before .before .before .parity-fault .result) _ _ (reached _ (g .result) [] [] (g .ensures .0) (c .before .before .before .before .before .before .before .before .before .before .before .before .before .before .before .if1 .left)) (c .before .before .before .before .before .before .before .before .parity-fault .ensures) (s .args .n) (c .before .before .before .address-cards .result) (c .before .before .before .before .before .before .if2 .left) (c .if3 .taken) (c .before .before .before .address-cards .ensures) (c .before .before .before .address-cards .kept .1 .1 .1 .1 .0 ∙ zeros-long 1024 _ (s .pre .1)) (c .before .before .before .before .before .before .before .before .before .before .before .before .all-hops .ensures .long)
+    let at-address-cards = c .before .before .before in
+    let at-if2 = at-address-cards .before .before .before in
+    let at-parity-fault = at-if2 .before .before in
+    let at-all-hops = at-parity-fault .before .before .before .before in
+    let at-if1 = at-all-hops .before .before .before in
+    let at-reach-fault = at-if1 .before .before .before .before in
+    let at-args = at-reach-fault .before .before .before .before .before .before .before in
+    let g = at-reach-fault .reach-fault in
+    none-planned _ (at-parity-fault .parity-fault .result) _ _
+    (reached _ (g .result) [] [] (g .ensures .0) (at-if1 .if1 .left)) (at-parity-fault .parity-fault .ensures)
+    (at-args .args .n) (at-address-cards .address-cards .result) (at-if2 .if2 .left) (c .if3 .taken)
+    (at-address-cards .address-cards .ensures)
+    (at-address-cards .address-cards .kept .1 .1 .1 .1 .0 ∙ zeros-long 1024 _ (at-args .pre .1)) (at-all-hops .all-hops .ensures .long)
 
 cast-t25 : tie.Need-cast-t25
-cast-t25 c = omega (arith, c .before .before .before .address-cards .ensures .most, c .before .before .before .before .before .before .before .before .before .before .before .before .before .before .before .before .before .before .before .before .before .before .before .before .before .before .pre .0 .sizes .few)
+cast-t25 c =
+    let at-address-cards = c .before .before .before in
+    let at-pre = at-address-cards .before .before .before .before .before .before .before .before .before .before .before .before .before .before .before .before .before .before .before .before .before .before .before in
+    omega (arith, at-address-cards .address-cards .ensures .most, at-pre .pre .0 .sizes .few)
 
 same-length-5 : tie.Need-same-length-5
 same-length-5 c = search needs
@@ -70,9 +93,19 @@ same-length-6 c = search needs
 
 returns-4 : tie.Need-returns-4
 returns-4 c =
-    let s = c .before .before .before .before .before .before .before .before .before .before .before .before .before .before .before .before .before .before .before .before .before .before .before .before .before .before in
-    let g = c .before .before .before .before .before .before .before .before .before .before .before .before .before .before .before .before .before .before .before .reach-fault in
-    found-planned _ (c .before .before .before .before .before .before .before .before .parity-fault .result) _ _ (reached _ (g .result) [] [] (g .ensures .0) (c .before .before .before .before .before .before .before .before .before .before .before .before .before .before .before .if1 .left)) (c .before .before .before .before .before .before .before .before .parity-fault .ensures) (s .args .n) (c .before .before .before .address-cards .result) (sym (formed-cards _ _ _ (s .pre .0))) (c .before .before .before .before .before .before .if2 .left) (omega (arith, c .before .before .before .address-cards .ensures .most, c .if3 .left)) (c .before .before .before .address-cards .ensures) (c .before .before .before .before .before .before .before .before .before .before .before .before .all-hops .ensures)
+    let at-address-cards = c .before .before .before in
+    let at-if2 = at-address-cards .before .before .before in
+    let at-parity-fault = at-if2 .before .before in
+    let at-all-hops = at-parity-fault .before .before .before .before in
+    let at-if1 = at-all-hops .before .before .before in
+    let at-reach-fault = at-if1 .before .before .before .before in
+    let at-args = at-reach-fault .before .before .before .before .before .before .before in
+    let g = at-reach-fault .reach-fault in
+    found-planned _ (at-parity-fault .parity-fault .result) _ _
+    (reached _ (g .result) [] [] (g .ensures .0) (at-if1 .if1 .left)) (at-parity-fault .parity-fault .ensures)
+    (at-args .args .n) (at-address-cards .address-cards .result) (sym (formed-cards _ _ _ (at-args .pre .0)))
+    (at-if2 .if2 .left) (omega (arith, at-address-cards .address-cards .ensures .most, c .if3 .left))
+    (at-address-cards .address-cards .ensures) (at-all-hops .all-hops .ensures)
 
 pub plan-formed-spec : {M : Type 1} → statement M
 plan-formed-spec =

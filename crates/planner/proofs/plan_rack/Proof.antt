@@ -13,12 +13,17 @@ use Rattle.planner.proofs.plan_rack.Tie as tie
 
 returns : tie.Need-returns
 returns c =
-    let says = plan-says-one (c .before .before .before .before .args .file .now) _ (c .before .before .before .before .args .words .now) (c .before .before .before .before .args .hops .now) (rw (ne-eqb (length (c .before .before .before .before .args .words .now)) 1024 (c .if1 .taken)) refl) refl refl refl in
+    let says = plan-says-one (c .before .before .before .before .args .file .now) _
+    (c .before .before .before .before .args .words .now) (c .before .before .before .before .args .hops .now)
+    (rw (ne-eqb (length (c .before .before .before .before .args .words .now)) 1024 (c .if1 .taken)) refl) refl refl refl in
     (says, λ a. addresses-found _ _ _ _ _ _ a says)
 
 returns-2 : tie.Need-returns-2
 returns-2 c =
-    let says = plan-says-one (c .before .before .before .before .before .args .file .now) _ (c .before .before .before .before .before .args .words .now) (c .before .before .before .before .before .args .hops .now) (rw (ne-eqb (length (c .before .before .before .before .before .args .hops .now)) 65536 (c .if2 .taken)) (and-false (eqb (length (c .before .before .before .before .before .args .words .now)) 1024))) refl refl refl in
+    let at-args = c .before .before .before .before .before in
+    let says = plan-says-one (at-args .args .file .now) _ (at-args .args .words .now) (at-args .args .hops .now)
+    (rw (ne-eqb (length (at-args .args .hops .now)) 65536 (c .if2 .taken))
+    (and-false (eqb (length (at-args .args .words .now)) 1024))) refl refl refl in
     (says, λ a. addresses-found _ _ _ _ _ _ a says)
 
 clear-words-requires : tie.Need-clear-words-requires
@@ -28,7 +33,15 @@ clear-bytes-requires : tie.Need-clear-bytes-requires
 clear-bytes-requires c κs = search needs
 
 plan-file-requires : tie.Need-plan-file-requires
-plan-file-requires c κs = (c .before .before .before .before .before .before .before .before .clear-words .ensures ∙ ap (λ (k : ℕ). replicate k 0) (c .before .before .before .before .before .before .before .before .before .before .before .if1 .left), c .before .before .before .before .clear-bytes .ensures ∙ ap (λ (k : ℕ). replicate k 0) (c .before .before .before .before .before .before .before .before .before .before .if2 .left))
+plan-file-requires c κs =
+    let at-clear-bytes = c .before .before .before .before in
+    let at-clear-words = at-clear-bytes .before .before .before .before in
+    let at-if2 = at-clear-words .before .before in
+    let at-if1 = at-if2 .before in (
+      at-clear-words .clear-words .ensures ∙ ap (λ (k : ℕ). replicate k 0)
+          (at-if1 .if1 .left),
+      at-clear-bytes .clear-bytes .ensures ∙ ap (λ (k : ℕ). replicate k 0) (at-if2 .if2 .left),
+    )
 
 clear-words-requires-2 : tie.Need-clear-words-requires-2
 clear-words-requires-2 c κs = search needs
@@ -44,7 +57,15 @@ same-length-2 c = search needs
 
 returns-3 : tie.Need-returns-3
 returns-3 c =
-    let says = plan-says-refused (c .before .before .before .before .before .before .before .before .before .before .before .before .before .before .before .before .before .before .before .before .before .before .before .before .before .before .before .before .before .before .args .file .now) _ (c .before .before .before .before .before .before .before .before .before .before .before .before .before .before .before .before .before .before .before .before .before .before .before .before .before .before .before .before .before .before .args .words .now) _ (c .before .before .before .before .before .before .before .before .before .before .before .before .before .before .before .before .before .before .before .before .before .before .before .before .before .before .before .before .before .before .args .hops .now) _ (c .before .before .before .before .before .before .before .before .before .before .before .before .before .before .before .before .before .before .before .before .before .before .before .before .before .before .if1 .left) (c .before .before .before .before .before .before .before .before .before .before .before .before .before .before .before .before .before .before .before .before .before .before .before .before .before .if2 .left) (c .before .before .before .before .before .before .before .before .before .before .before .before .before .before .plan-file .ensures) _ _ (c .before .before .before .before .before .before .before .before .if3 .taken) (c .before .before .before .before .before .before .clear-words2 .ensures) (c .before .before .clear-bytes2 .ensures) in
+    let at-clear-words2 = c .before .before .before .before .before .before in
+    let at-if3 = at-clear-words2 .before .before in
+    let at-plan-file = at-if3 .before .before .before .before .before .before in
+    let at-if2 = at-plan-file .before .before .before .before .before .before .before .before .before .before .before in
+    let at-if1 = at-if2 .before in
+    let at-args = at-if1 .before .before .before .before in
+    let says = plan-says-refused (at-args .args .file .now) _ (at-args .args .words .now) _ (at-args .args .hops .now) _
+    (at-if1 .if1 .left) (at-if2 .if2 .left) (at-plan-file .plan-file .ensures) _ _ (at-if3 .if3 .taken)
+    (at-clear-words2 .clear-words2 .ensures) (c .before .before .clear-bytes2 .ensures) in
     (says, λ a. addresses-found _ _ _ _ _ _ a says)
 
 same-length-3 : tie.Need-same-length-3
@@ -55,7 +76,12 @@ same-length-4 c = search needs
 
 returns-4 : tie.Need-returns-4
 returns-4 c =
-    let says = plan-says-found (c .before .before .before .before .before .before .before .before .before .before .before .before .before .before .before .before .before .before .before .before .before .before .args .file .now) _ (c .before .before .before .before .before .before .before .before .before .before .before .before .before .before .before .before .before .before .before .before .before .before .args .words .now) _ (c .before .before .before .before .before .before .before .before .before .before .before .before .before .before .before .before .before .before .before .before .before .before .args .hops .now) _ (c .before .before .before .before .before .before .before .before .before .before .before .before .before .before .before .before .before .before .if1 .left) (c .before .before .before .before .before .before .before .before .before .before .before .before .before .before .before .before .before .if2 .left) (c .before .before .before .before .before .before .plan-file .ensures) (c .if3 .left) in
+    let at-plan-file = c .before .before .before .before .before .before in
+    let at-if2 = at-plan-file .before .before .before .before .before .before .before .before .before .before .before in
+    let at-if1 = at-if2 .before in
+    let at-args = at-if1 .before .before .before .before in
+    let says = plan-says-found (at-args .args .file .now) _ (at-args .args .words .now) _ (at-args .args .hops .now) _
+    (at-if1 .if1 .left) (at-if2 .if2 .left) (at-plan-file .plan-file .ensures) (c .if3 .left) in
     (says, λ a. addresses-found _ _ _ _ _ _ a says)
 
 pub plan-rack-spec : {M : Type 1} → statement M

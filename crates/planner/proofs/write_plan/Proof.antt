@@ -27,13 +27,35 @@ same-length : tie.Need-same-length
 same-length c = search needs
 
 returns-2 : tie.Need-returns-2
-returns-2 c = write-says-refused (c .before .before .before .before .before .before .before .before .before .before .before .before .before .before .args .file .now) _ _ _ (c .before .before .before .before .before .before .before .before .before .before .before .before .before .before .args .output .now) (c .before .before .before .before .before .before .before .before .before .before .before .if1 .left) (c .before .before .before .before .before .before .before .before .plan-file .ensures) _ (c .if2 .taken) (c .before .before .before .before .clear-bytes .ensures)
+returns-2 c =
+    let at-clear-bytes = c .before .before .before .before in
+    let at-plan-file = at-clear-bytes .before .before .before .before in
+    let at-if1 = at-plan-file .before .before .before in
+    let at-args = at-if1 .before .before .before in
+    write-says-refused (at-args .args .file .now) _ _ _ (at-args .args .output .now) (at-if1 .if1 .left)
+    (at-plan-file .plan-file .ensures) _ (c .if2 .taken) (at-clear-bytes .clear-bytes .ensures)
 
 number-at-requires : tie.Need-number-at-requires
-number-at-requires c κs = omega (arith, written-sizes _ _ _ _ (c .before .before .before .before .before .before .before .before .before .before .before .before .before .before .args .output .now) (c .before .before .before .before .before .before .before .before .before .before .before .if1 .left) (c .before .before .before .before .before .before .before .before .plan-file .ensures) (c .if2 .left) _ _ refl refl .long)
+number-at-requires c κs =
+    let at-plan-file = c .before .before .before .before .before .before .before .before in
+    let at-if1 = at-plan-file .before .before .before in
+    let at-args = at-if1 .before .before .before in
+    omega (
+      arith,
+      written-sizes _ _ _ _ (at-args .args .output .now) (at-if1 .if1 .left) (at-plan-file .plan-file .ensures)
+          (c .if2 .left) _ _ refl refl .long,
+    )
 
 number-at-requires-2 : tie.Need-number-at-requires-2
-number-at-requires-2 c κs = omega (arith, written-sizes _ _ _ _ (c .before .before .before .before .before .before .before .before .before .before .before .before .before .before .before .args .output .now) (c .before .before .before .before .before .before .before .before .before .before .before .before .if1 .left) (c .before .before .before .before .before .before .before .before .before .plan-file .ensures) (c .before .if2 .left) _ _ refl refl .long)
+number-at-requires-2 c κs =
+    let at-plan-file = c .before .before .before .before .before .before .before .before .before in
+    let at-if1 = at-plan-file .before .before .before in
+    let at-args = at-if1 .before .before .before in
+    omega (
+      arith,
+      written-sizes _ _ _ _ (at-args .args .output .now) (at-if1 .if1 .left) (at-plan-file .plan-file .ensures)
+          (c .before .if2 .left) _ _ refl refl .long,
+    )
 
 cast-put-plan : tie.Need-cast-put-plan
 cast-put-plan c = search needs
@@ -42,12 +64,19 @@ slice-aggregate-put-plan : tie.Need-slice-aggregate-put-plan
 slice-aggregate-put-plan c = search needs
 
 put-plan-requires : tie.Need-put-plan-requires
-put-plan-requires c κs = (
-  written-sizes _ _ _ _ (c .before .before .before .before .before .before .before .before .before .before .before .before .before .before .before .before .before .before .before .args .output .now) (c .before .before .before .before .before .before .before .before .before .before .before .before .before .before .before .before .if1 .left) (c .before .before .before .before .before .before .before .before .before .before .before .before .before .plan-file .ensures) (c .before .before .before .before .before .if2 .left) _ _ (c .before .before .before .before .number-at .ensures .0) (c .before .before .before .number-at2 .ensures .0),
-  columns-few _ _ _ _ (c .before .before .before .before .before .before .before .before .before .before .before .before .before .before .before .before .before .before .before .args .output .now) (c .before .before .before .before .before .before .before .before .before .before .before .before .before .before .before .before .if1 .left) (c .before .before .before .before .before .before .before .before .before .before .before .before .before .plan-file .ensures) (c .before .before .before .before .before .if2 .left),
-  c .before .before .before .before .before .before .before .before .before .before .before .before .before .plan-file .ensures .long-words,
-  c .before .before .before .before .before .before .before .before .before .clear-bytes .ensures ∙ ap (λ (k : ℕ). replicate k 0) (c .before .before .before .before .before .before .before .before .before .before .before .before .before .before .before .before .if1 .left),
-)
+put-plan-requires c κs =
+    let at-number-at2 = c .before .before .before in
+    let at-number-at = at-number-at2 .before in
+    let at-if2 = at-number-at .before in
+    let at-clear-bytes = at-if2 .before .before .before .before in
+    let at-plan-file = at-clear-bytes .before .before .before .before in
+    let at-if1 = at-plan-file .before .before .before in
+    let at-args = at-if1 .before .before .before in (
+      written-sizes _ _ _ _ (at-args .args .output .now) (at-if1 .if1 .left) (at-plan-file .plan-file .ensures) (at-if2 .if2 .left) _ _ (at-number-at .number-at .ensures .0) (at-number-at2 .number-at2 .ensures .0),
+      columns-few _ _ _ _ (at-args .args .output .now) (at-if1 .if1 .left) (at-plan-file .plan-file .ensures) (at-if2 .if2 .left),
+      at-plan-file .plan-file .ensures .long-words,
+      at-clear-bytes .clear-bytes .ensures ∙ ap (λ (k : ℕ). replicate k 0) (at-if1 .if1 .left),
+    )
 
 cast-t22 : tie.Need-cast-t22
 cast-t22 c = search needs
@@ -57,7 +86,15 @@ same-length-2 c = search needs
 
 returns-3 : tie.Need-returns-3
 returns-3 c =
-    write-says-found (c .before .before .before .before .before .before .before .before .before .before .before .before .before .before .before .before .before .before .before .before .before .before .args .file .now) _ _ _ (c .before .before .before .before .before .before .before .before .before .before .before .before .before .before .before .before .before .before .before .before .before .before .args .output .now) (c .before .before .before .before .before .before .before .before .before .before .before .before .before .before .before .before .before .before .before .if1 .left) (c .before .before .before .before .before .before .before .before .before .before .before .before .before .before .before .before .plan-file .ensures) (c .before .before .before .before .before .before .before .before .if2 .left) _ _ (c .before .before .put-plan .kept .1 .1 .1 .1 .1 .0 ∙ c .before .before .before .before .before .before .before .before .before .before .before .before .clear-bytes .kept .0) (c .before .before .put-plan .ensures .0) (c .before .before .put-plan .ensures .1)
+    let at-if2 = c .before .before .before .before .before .before .before .before in
+    let at-clear-bytes = at-if2 .before .before .before .before in
+    let at-plan-file = at-clear-bytes .before .before .before .before in
+    let at-if1 = at-plan-file .before .before .before in
+    let at-args = at-if1 .before .before .before in
+    write-says-found (at-args .args .file .now) _ _ _ (at-args .args .output .now) (at-if1 .if1 .left)
+    (at-plan-file .plan-file .ensures) (at-if2 .if2 .left) _ _
+    (c .before .before .put-plan .kept .1 .1 .1 .1 .1 .0 ∙ at-clear-bytes .clear-bytes .kept .0)
+    (c .before .before .put-plan .ensures .0) (c .before .before .put-plan .ensures .1)
 
 pub write-plan-spec : {M : Type 1} → statement M
 write-plan-spec =

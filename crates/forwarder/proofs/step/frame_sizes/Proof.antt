@@ -20,7 +20,9 @@ returns-3 : tie.Need-returns-3
 returns-3 c = sizes-no-card _ _ _ _ (c .before .before .before .before .before .before .plan-layout .ensures) _ (omega arith) (inr (omega arith)) refl
 
 returns-4 : tie.Need-returns-4
-returns-4 c = sizes-both-cards _ _ _ _ (c .before .before .before .before .before .before .plan-layout .ensures) (omega arith) (omega arith) (omega arith)
+returns-4 c =
+    let at-plan-layout = c .before .before .before .before .before .before in
+    sizes-both-cards _ _ _ _ (at-plan-layout .plan-layout .ensures) (omega arith) (omega arith) (omega arith)
 
 pub frame-sizes-spec : {M : Type 1} → statement M
 frame-sizes-spec = tie.close (tie.spec plan-layout-requires returns returns-2 returns-3 returns-4)

@@ -36,21 +36,26 @@ cast-t14 c = omega (arith, c .before .before .before .before .before .before .be
 
 cast-t15 : tie.Need-cast-t15 Inv-loop μ-loop
 cast-t15 c =
-    let s = c .before .before .before .before .before .before .before .before in
-    let z = s .args in
+    let at-plan-hamming = c .before .before .before .before .before in
+    let at-args = at-plan-hamming .before .before .before in
+    let z = at-args .args in
     omega (
       arith,
-      s .pre .1 .few,
-      tested-card (z .plan .now) (z .n) (z .m) (z .k) (z .a) (z .b) (s .pre .1) _ _ _ (c .before .before .far-card .ensures) (c .before .before .before .before .before .plan-hamming .ensures .0)
+      at-args .pre .1 .few,
+      tested-card (z .plan .now) (z .n) (z .m) (z .k) (z .a) (z .b) (at-args .pre .1) _ _ _
+          (c .before .before .far-card .ensures) (at-plan-hamming .plan-hamming .ensures .0)
           (sym (c .before .is-nearer .ensures) ∙ c .if2 .taken),
     )
 
 returns-2 : tie.Need-returns-2 Inv-loop μ-loop
 returns-2 c =
-    let s = c .before .before .before .before .before .before .before .before in
-    let z = s .args in
-    step-found (z .plan .now) (z .n) (z .m) (z .k) (z .a) (z .b) (s .pre .1) _ _ _ (c .before .before .far-card .ensures) (c .before .before .before .before .before .plan-hamming .ensures .0)
-    (λ e. omega arith) (omega arith) (c .before .before .before .before .loop .inv .1) (sym (c .before .is-nearer .ensures) ∙ c .if2 .taken)
+    let at-loop = c .before .before .before .before in
+    let at-plan-hamming = at-loop .before in
+    let at-args = at-plan-hamming .before .before .before in
+    let z = at-args .args in
+    step-found (z .plan .now) (z .n) (z .m) (z .k) (z .a) (z .b) (at-args .pre .1) _ _ _
+    (c .before .before .far-card .ensures) (at-plan-hamming .plan-hamming .ensures .0)
+    (λ e. omega arith) (omega arith) (at-loop .loop .inv .1) (sym (c .before .is-nearer .ensures) ∙ c .if2 .taken)
 
 add-i : tie.Need-add-i Inv-loop μ-loop
 add-i c = omega arith
@@ -59,22 +64,26 @@ loop-less : tie.Need-loop-less Inv-loop μ-loop
 loop-less c = omega arith
 
 loop-again : tie.Need-loop-again Inv-loop μ-loop
-loop-again c = (
-  omega arith,
-  let s = c .before .before .before .before .before .before .before .before in
-      let z = s .args in
-      step-passed (z .plan .now) (z .n) (z .m) (z .k) (z .a) (z .b) (s .pre .1) _ _ _ (c .before .before .far-card .ensures) (c .before .before .before .before .before .plan-hamming .ensures .0)
-      (c .before .before .before .before .loop .inv .1) (sym (c .before .is-nearer .ensures) ∙ c .if2 .left),
-)
+loop-again c =
+    let at-loop = c .before .before .before .before in
+    let at-plan-hamming = at-loop .before in
+    let at-args = at-plan-hamming .before .before .before in (
+      omega arith,
+      let z = at-args .args in
+          step-passed (z .plan .now) (z .n) (z .m) (z .k) (z .a) (z .b) (at-args .pre .1) _ _ _
+          (c .before .before .far-card .ensures) (at-plan-hamming .plan-hamming .ensures .0)
+          (at-loop .loop .inv .1) (sym (c .before .is-nearer .ensures) ∙ c .if2 .left),
+    )
 
 no-link-requires-2 : tie.Need-no-link-requires-2 Inv-loop μ-loop
 no-link-requires-2 c κs = search needs
 
 returns-3 : tie.Need-returns-3 Inv-loop μ-loop
 returns-3 c =
-    let s = c .before .before .before .before .before .before in
-    let z = s .args in
-    step-none (z .plan .now) (z .n) (z .m) (z .k) (z .a) (z .b) (s .pre .1) _ (λ e. omega arith) (λ j h. c .before .before .loop .inv .1 j (omega arith)) (c .no-link2 .ensures)
+    let at-args = c .before .before .before .before .before .before in
+    let z = at-args .args in
+    step-none (z .plan .now) (z .n) (z .m) (z .k) (z .a) (z .b) (at-args .pre .1) _ (λ e. omega arith)
+    (λ j h. c .before .before .loop .inv .1 j (omega arith)) (c .no-link2 .ensures)
 
 pub step-between-spec : {M : Type 1} → statement M
 step-between-spec =

@@ -29,11 +29,15 @@ cast-step-between-3 c = search needs
 
 step-between-requires : tie.Need-step-between-requires
 step-between-requires c κs =
-    let s = c .before .before .before .before .before .before .before .frame-sizes in
-    (c .before .before .before .before .ones-table .ensures, s .ensures .sizes (omega arith), s .ensures .from (omega arith), s .ensures .to (omega arith))
+    let at-ones-table = c .before .before .before .before in
+    let at-frame-sizes = at-ones-table .before .before .before in
+    let s = at-frame-sizes .frame-sizes in
+    (at-ones-table .ones-table .ensures, s .ensures .sizes (omega arith), s .ensures .from (omega arith), s .ensures .to (omega arith))
 
 returns-2 : tie.Need-returns-2
-returns-2 c = step-answered _ _ _ _ (sym (c .before .before .before .before .before .before .before .before .frame-sizes .ensures .number) ∙ omega arith) (c .step-between .ensures)
+returns-2 c =
+    let at-frame-sizes = c .before .before .before .before .before .before .before .before in
+    step-answered _ _ _ _ (sym (at-frame-sizes .frame-sizes .ensures .number) ∙ omega arith) (c .step-between .ensures)
 
 pub step-frame-spec : {M : Type 1} → statement M
 step-frame-spec =

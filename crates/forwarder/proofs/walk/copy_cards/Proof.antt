@@ -29,7 +29,12 @@ mul-met-2 c = omega arith
 slice-write-met : tie.Need-slice-write-met Inv-loop μ-loop
 slice-write-met c =
     let a = c .before .before .before .args in
-    omega (arith, ap length (c .before .before .loop .inv .1), copied-length (a .cards .now) (a .met .now) (c .before .before .loop .i) (omega arith) (omega arith))
+    omega (
+      arith,
+      ap length (c .before .before .loop .inv .1),
+      copied-length (a .cards .now) (a .met .now)
+          (c .before .before .loop .i) (omega arith) (omega arith),
+    )
 
 add-i : tie.Need-add-i Inv-loop μ-loop
 add-i c = omega arith
@@ -40,8 +45,11 @@ loop-less c = omega arith
 loop-again : tie.Need-loop-again Inv-loop μ-loop
 loop-again c =
     let a = c .before .before .before .args in
-    let l = c .before .before .loop in
-    (omega arith, ap (λ (x : List ℕ). set x (l .i) (getD (a .cards .now) (l .i) 0)) (l .inv .1) ∙ copied-more (a .cards .now) (a .met .now) (l .i) (omega arith) (omega arith))
+    let l = c .before .before .loop in (
+      omega arith,
+      ap (λ (x : List ℕ). set x (l .i) (getD (a .cards .now) (l .i) 0)) (l .inv .1) ∙ copied-more (a .cards .now)
+          (a .met .now) (l .i) (omega arith) (omega arith),
+    )
 
 same-length : tie.Need-same-length Inv-loop μ-loop
 same-length c =

@@ -50,16 +50,20 @@ cast-step-between : tie.Need-cast-step-between Inv-loop μ-loop
 cast-step-between c = omega (arith, known c)
 
 step-between-requires-2 : tie.Need-step-between-requires-2 Inv-loop μ-loop
-step-between-requires-2 c κs = (c .before .before .before .before .before .pre .0, c .before .before .before .before .before .pre .1, known c .1, c .before .before .before .before .before .pre .3)
+step-between-requires-2 c κs =
+    let at-pre = c .before .before .before .before .before in
+    (at-pre .pre .0, at-pre .pre .1, known c .1, at-pre .pre .3)
 
 loop-less : tie.Need-loop-less Inv-loop μ-loop
 loop-less c = omega (arith, known (c .before))
 
 loop-again : tie.Need-loop-again Inv-loop μ-loop
 loop-again c =
-    let s = c .before .before .before .before .before .before in
-    let z = s .pre .1 in
-    walk-steps (s .args .plan .now) (s .args .a) (s .args .b) _ _ _ (c .before .before .before .loop .inv) (c .before .if1 .taken) (omega (arith, z .columns, z .few-columns)) _
+    let at-loop = c .before .before .before in
+    let at-pre = at-loop .before .before .before in
+    let z = at-pre .pre .1 in
+    walk-steps (at-pre .args .plan .now) (at-pre .args .a) (at-pre .args .b) _ _ _ (at-loop .loop .inv)
+    (c .before .if1 .taken) (omega (arith, z .columns, z .few-columns)) _
     (c .step-between2 .ensures)
 
 cast-t20 : tie.Need-cast-t20 Inv-loop μ-loop
@@ -70,8 +74,9 @@ cast-t20 c =
 
 returns : tie.Need-returns Inv-loop μ-loop
 returns c =
-    let s = c .before .before .before .before .before in
-    walk-stops (s .args .plan .now) (s .args .a) (s .args .b) _ _ _ (c .before .before .loop .inv) (λ e. omega arith) (omega (arith, s .pre .1 .columns, s .pre .1 .few-columns))
+    let at-args = c .before .before .before .before .before in
+    walk-stops (at-args .args .plan .now) (at-args .args .a) (at-args .args .b) _ _ _ (c .before .before .loop .inv)
+    (λ e. omega arith) (omega (arith, at-args .pre .1 .columns, at-args .pre .1 .few-columns))
 
 pub walk-between-spec : {M : Type 1} → statement M
 walk-between-spec =

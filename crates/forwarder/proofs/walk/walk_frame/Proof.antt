@@ -36,19 +36,24 @@ cast-walk-between-3 c = search needs
 
 walk-between-requires : tie.Need-walk-between-requires
 walk-between-requires c κs =
-    let s = c .before .before .before .before .before .before .before .frame-sizes in
-    (c .before .before .before .before .ones-table .ensures, s .ensures .sizes (omega arith), s .ensures .from (omega arith), s .ensures .to (omega arith))
+    let at-ones-table = c .before .before .before .before in
+    let at-frame-sizes = at-ones-table .before .before .before in
+    let s = at-frame-sizes .frame-sizes in
+    (at-ones-table .ones-table .ensures, s .ensures .sizes (omega arith), s .ensures .from (omega arith), s .ensures .to (omega arith))
 
 counted-requires : tie.Need-counted-requires
 counted-requires c κs = search needs
 
 returns-3 : tie.Need-returns-3
 returns-3 c =
-    let w = c .before .before .before in
-    let f = w .before .before .before .before .before .before .before .before in
+    let at-walk-between = c .before .before .before in
+    let at-if2 = at-walk-between .before .before .before .before .before .before in
+    let at-frame-sizes = at-if2 .before .before in
+    let at-if1 = at-frame-sizes .before in
     with-arrival _ _ _ _ _ _ _
-    (says-full _ _ _ _ _ (w .walk-between .result) _ (omega (arith, f .before .if1 .left)) (sym (f .frame-sizes .ensures .number) ∙ omega (arith, w .before .before .before .before .before .before .if2 .left))
-    (w .walk-between .ensures) (c .before .before .counted .ensures) (λ e. omega (arith, c .if3 .taken)))
+    (says-full _ _ _ _ _ (at-walk-between .walk-between .result) _ (omega (arith, at-if1 .if1 .left))
+    (sym (at-frame-sizes .frame-sizes .ensures .number) ∙ omega (arith, at-if2 .if2 .left))
+    (at-walk-between .walk-between .ensures) (c .before .before .counted .ensures) (λ e. omega (arith, c .if3 .taken)))
 
 copy-cards-requires : tie.Need-copy-cards-requires
 copy-cards-requires c κs =
@@ -60,11 +65,17 @@ same-length c = search needs
 
 returns-4 : tie.Need-returns-4
 returns-4 c =
-    let w = c .before .before .before .before .before .before .before .before .before in
-    let f = w .before .before .before .before .before .before .before .before in
+    let at-if3 = c .before .before .before .before .before .before in
+    let at-counted = at-if3 .before .before in
+    let at-walk-between = at-counted .before in
+    let at-if2 = at-walk-between .before .before .before .before .before .before in
+    let at-frame-sizes = at-if2 .before .before in
+    let at-if1 = at-frame-sizes .before in
     with-arrival _ _ _ _ _ _ _
-    (says-answered _ _ _ _ _ (w .walk-between .result) _ (omega (arith, f .before .if1 .left)) (sym (f .frame-sizes .ensures .number) ∙ omega (arith, w .before .before .before .before .before .before .if2 .left))
-    (w .walk-between .ensures) (c .before .before .before .before .before .before .before .before .counted .ensures) _ (omega (arith, c .before .before .before .before .before .before .if3 .left)) (c .before .before .copy-cards .ensures))
+    (says-answered _ _ _ _ _ (at-walk-between .walk-between .result) _ (omega (arith, at-if1 .if1 .left))
+    (sym (at-frame-sizes .frame-sizes .ensures .number) ∙ omega (arith, at-if2 .if2 .left))
+    (at-walk-between .walk-between .ensures) (at-counted .counted .ensures) _ (omega (arith, at-if3 .if3 .left))
+    (c .before .before .copy-cards .ensures))
 
 pub walk-frame-spec : {M : Type 1} → statement M
 walk-frame-spec =

@@ -33,15 +33,27 @@ slice-read-words : tie.Need-slice-read-words Inv-loop μ-loop
 slice-read-words c = omega (arith, c .before .before .loop .inv .1 .long)
 
 side-weight-requires : tie.Need-side-weight-requires Inv-loop μ-loop
-side-weight-requires c κs = (c .before .before .before .before .before .pre .0, c .before .before .before .before .before .pre .3, c .before .before .before .before .before .pre .4, omega arith)
+side-weight-requires c κs =
+    let at-pre = c .before .before .before .before .before in
+    (at-pre .pre .0, at-pre .pre .3, at-pre .pre .4, omega arith)
 
 add-words-2 : tie.Need-add-words-2 Inv-loop μ-loop
 add-words-2 c =
-    let s = c .before .before .before .before .before .before in
-    let x = c .before .before .before .loop .c in
-    let b = side-in (s .args .hops .now) (s .args .p) (s .args .q) x in
-    let e = c .before .before .before .loop .inv .1 .after (4 * x + s .args .k / 64) (omega arith) in
-    record { fits = omega (arith, c .side-weight .ensures, weighed b (s .args .k % 64) (omega arith), e, bit-fits (s .args .k % 64) _ b (omega arith) (s .pre .6 x (omega arith))) }
+    let at-loop = c .before .before .before in
+    let at-args = at-loop .before .before .before in
+    let x = at-loop .loop .c in
+    let b = side-in (at-args .args .hops .now) (at-args .args .p) (at-args .args .q) x in
+    let e = at-loop .loop .inv .1 .after (4 * x + at-args .args .k / 64) (omega arith) in
+    record {
+      fits = omega (
+        arith,
+        c .side-weight .ensures,
+        weighed b (at-args .args .k % 64) (omega arith),
+        e,
+        bit-fits
+            (at-args .args .k % 64) _ b (omega arith) (at-args .pre .6 x (omega arith)),
+      );
+    }
 
 mul-words-3 : tie.Need-mul-words-3 Inv-loop μ-loop
 mul-words-3 c = omega arith

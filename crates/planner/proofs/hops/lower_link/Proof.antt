@@ -22,10 +22,13 @@ lower-row-requires c κs =
 
 lower-row-requires-2 : tie.Need-lower-row-requires-2
 lower-row-requires-2 c κs =
-    let s = c .before .before .before .before .before .before .before .before .before in (
-      c .before .before .before .lower-row .ensures .long ∙ s .pre .2 .long,
-      omega (arith, c .before .before .before .before .before .second-end .ensures .0, s .pre .0 .second (s .args .i) (omega arith), s .pre .0 .sizes .few),
-      omega (arith, c .before .before .before .before .before .before .first-end .ensures .0, s .pre .0 .first (s .args .i) (omega arith), s .pre .0 .sizes .few),
+    let at-lower-row = c .before .before .before in
+    let at-second-end = at-lower-row .before .before in
+    let at-first-end = at-second-end .before in
+    let at-pre = at-first-end .before .before .before in (
+      at-lower-row .lower-row .ensures .long ∙ at-pre .pre .2 .long,
+      omega (arith, at-second-end .second-end .ensures .0, at-pre .pre .0 .second (at-pre .args .i) (omega arith), at-pre .pre .0 .sizes .few),
+      omega (arith, at-first-end .first-end .ensures .0, at-pre .pre .0 .first (at-pre .args .i) (omega arith), at-pre .pre .0 .sizes .few),
     )
 
 larger-requires : tie.Need-larger-requires
@@ -36,11 +39,14 @@ same-length c = search needs
 
 returns : tie.Need-returns
 returns c =
-    let r = c .before .before .before in
-    let l = r .before .before .before .before in
-    let s = l .before .before .before .before .before .before in
-    link-passed _ _ _ (s .pre .0) _ _ _ _ _ _ _ _ _ (omega arith) (s .pre .2) (l .before .before .before .first-end .ensures .0) (l .before .before .second-end .ensures .0)
-    (l .lower-row .ensures) (r .lower-row2 .ensures) (c .larger .ensures)
+    let at-lower-row2 = c .before .before .before in
+    let at-lower-row = at-lower-row2 .before .before .before .before in
+    let at-second-end = at-lower-row .before .before in
+    let at-first-end = at-second-end .before in
+    let at-pre = at-first-end .before .before .before in
+    link-passed _ _ _ (at-pre .pre .0) _ _ _ _ _ _ _ _ _ (omega arith) (at-pre .pre .2) (at-first-end .first-end .ensures .0)
+    (at-second-end .second-end .ensures .0)
+    (at-lower-row .lower-row .ensures) (at-lower-row2 .lower-row2 .ensures) (c .larger .ensures)
 
 pub lower-link-spec : {M : Type 1} → statement M
 lower-link-spec =

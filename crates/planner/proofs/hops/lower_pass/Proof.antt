@@ -31,7 +31,10 @@ loop-less : tie.Need-loop-less Inv-loop μ-loop
 loop-less c = omega arith
 
 loop-again : tie.Need-loop-again Inv-loop μ-loop
-loop-again c = (omega arith, passed-more _ _ _ _ _ _ _ _ _ _ (c .larger .ensures) (c .before .before .before .before .before .before .loop .inv .1) (c .before .before .before .lower-link .ensures))
+loop-again c =
+    let at-lower-link = c .before .before .before in
+    let at-loop = at-lower-link .before .before .before in
+    (omega arith, passed-more _ _ _ _ _ _ _ _ _ _ (c .larger .ensures) (at-loop .loop .inv .1) (at-lower-link .lower-link .ensures))
 
 same-length : tie.Need-same-length Inv-loop μ-loop
 same-length c = c .before .loop .inv .1 .above .long ∙ sym (c .before .before .before .before .pre .1 .long)

@@ -27,13 +27,29 @@ second-end-requires c κs = search needs
 
 shared-slice-read-if1 : tie.Need-shared-slice-read-if1 Inv-loop μ-loop
 shared-slice-read-if1 c =
-    let s = c .before .before .before .before .before .before .before in
-    omega (arith, s .pre .0 .first (c .before .before .before .before .loop .i) (omega arith), c .before .before .first-end .ensures .0, s .pre .0 .sizes .few, s .pre .1 .long)
+    let at-loop = c .before .before .before .before in
+    let at-pre = at-loop .before .before .before in
+    omega (
+      arith,
+      at-pre .pre .0 .first (at-loop .loop .i)
+          (omega arith),
+      c .before .before .first-end .ensures .0,
+      at-pre .pre .0 .sizes .few,
+      at-pre .pre .1 .long,
+    )
 
 shared-slice-read-if1-2 : tie.Need-shared-slice-read-if1-2 Inv-loop μ-loop
 shared-slice-read-if1-2 c =
-    let s = c .before .before .before .before .before .before .before .before in
-    omega (arith, s .pre .0 .second (c .before .before .before .before .before .loop .i) (omega arith), c .before .before .second-end .ensures .0, s .pre .0 .sizes .few, s .pre .1 .long)
+    let at-loop = c .before .before .before .before .before in
+    let at-pre = at-loop .before .before .before in
+    omega (
+      arith,
+      at-pre .pre .0 .second (at-loop .loop .i)
+          (omega arith),
+      c .before .before .second-end .ensures .0,
+      at-pre .pre .0 .sizes .few,
+      at-pre .pre .1 .long,
+    )
 
 cast-t13 : tie.Need-cast-t13 Inv-loop μ-loop
 cast-t13 c = omega (arith, c .before .before .before .before .before .before .before .before .before .pre .0 .sizes .few-links)

@@ -36,7 +36,9 @@ loop-less : tie.Need-loop-less Inv-loop μ-loop
 loop-less c = omega arith
 
 loop-again : tie.Need-loop-again Inv-loop μ-loop
-loop-again c = (omega arith, swept-more _ _ _ _ (c .before .before .before .before .before .before .before .loop .inv .1) (c .before .before .lower-one .ensures))
+loop-again c =
+    let at-loop = c .before .before .before .before .before .before .before in
+    (omega arith, swept-more _ _ _ _ (at-loop .loop .inv .1) (c .before .before .lower-one .ensures))
 
 same-length : tie.Need-same-length Inv-loop μ-loop
 same-length c = omega arith

@@ -16,13 +16,22 @@ second-end-requires c κs = search needs
 
 returns : tie.Need-returns
 returns c =
-    let f = cards-are _ _ _ (c .before .before .before .before .before .pre .0) in
-    (sym (fault-first _ _ _ _ (c .before .before .first-end .ensures .0) (c .before .second-end .ensures .0) (omega arith)), λ e. absurd (omega arith))
+    let at-pre = c .before .before .before .before .before in
+    let f = cards-are _ _ _ (at-pre .pre .0) in (
+      sym (fault-first _ _ _ _ (c .before .before .first-end .ensures .0) (c .before .second-end .ensures .0)
+          (omega arith)),
+      λ e. absurd (omega arith),
+    )
 
 returns-2 : tie.Need-returns-2
 returns-2 c =
-    let f = cards-are _ _ _ (c .before .before .before .before .before .before .pre .0) in
-    (sym (fault-second _ _ _ _ (c .before .before .before .first-end .ensures .0) (c .before .before .second-end .ensures .0) (omega arith)), λ e. absurd (omega arith))
+    let at-first-end = c .before .before .before in
+    let at-pre = at-first-end .before .before .before in
+    let f = cards-are _ _ _ (at-pre .pre .0) in (
+      sym (fault-second _ _ _ _ (at-first-end .first-end .ensures .0) (c .before .before .second-end .ensures .0)
+          (omega arith)),
+      λ e. absurd (omega arith),
+    )
 
 returns-3 : tie.Need-returns-3
 returns-3 c =
@@ -42,12 +51,17 @@ slice-read-earlier c = search needs
 
 returns-4 : tie.Need-returns-4
 returns-4 c =
-    let s = c .before .before .before .before .before .before .before .before .before in
-    let p = c .before .before .before .before .before .before .first-end in
-    let q = c .before .before .before .before .before .second-end in
-    let f = cards-are _ _ _ (s .pre .0) in
-    let mark = s .pre .2 .is (p .result) (q .result) (omega arith) (omega arith) (c .before .before .if3 .left) in
-    (sym (fault-parallel _ _ _ _ (p .ensures .0) (q .ensures .0) (omega arith) (omega arith) (c .before .before .if3 .left) (omega arith)), λ e. absurd (omega arith))
+    let at-second-end = c .before .before .before .before .before in
+    let at-first-end = at-second-end .before in
+    let at-pre = at-first-end .before .before .before in
+    let p = at-first-end .first-end in
+    let q = at-second-end .second-end in
+    let f = cards-are _ _ _ (at-pre .pre .0) in
+    let mark = at-pre .pre .2 .is (p .result) (q .result) (omega arith) (omega arith) (c .before .before .if3 .left) in (
+      sym (fault-parallel _ _ _ _ (p .ensures .0) (q .ensures .0) (omega arith) (omega arith) (c .before .before .if3 .left)
+          (omega arith)),
+      λ e. absurd (omega arith),
+    )
 
 add-marks : tie.Need-add-marks
 add-marks c = search needs

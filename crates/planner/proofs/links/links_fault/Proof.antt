@@ -33,11 +33,13 @@ same-length c =
 
 returns : tie.Need-returns Inv-loop μ-loop
 returns c =
-    let l = c .before .before .before .before .before .before in
-    let s = l .before .before .before in (
-      fault-is _ _ _ _ (c .before .before .before .link-fault .ensures .0) refl
-          (clear-refusal _ _ (omega (arith, links-are _ _ _ (s .pre .0))) (l .loop .inv .2) (λ e. c .if1 .taken (c .before .before .before .link-fault .ensures .0 ∙ e))),
-      c .before .before .before .link-fault .kept .1 .1 .1 .1 .0 ∙ l .loop .inv .1 .long,
+    let at-link-fault = c .before .before .before in
+    let at-loop = at-link-fault .before .before .before in
+    let at-pre = at-loop .before .before .before in (
+      fault-is _ _ _ _ (at-link-fault .link-fault .ensures .0) refl
+          (clear-refusal _ _ (omega (arith, links-are _ _ _ (at-pre .pre .0))) (at-loop .loop .inv .2)
+          (λ e. c .if1 .taken (at-link-fault .link-fault .ensures .0 ∙ e))),
+      at-link-fault .link-fault .kept .1 .1 .1 .1 .0 ∙ at-loop .loop .inv .1 .long,
     )
 
 add-i : tie.Need-add-i Inv-loop μ-loop
@@ -47,11 +49,13 @@ loop-less : tie.Need-loop-less Inv-loop μ-loop
 loop-less c = omega arith
 
 loop-again : tie.Need-loop-again Inv-loop μ-loop
-loop-again c = (
-  omega arith,
-  c .before .before .before .link-fault .ensures .1 (c .if1 .left),
-  clear-more _ _ (c .before .before .before .before .before .before .loop .inv .2) (sym (c .before .before .before .link-fault .ensures .0) ∙ c .if1 .left),
-)
+loop-again c =
+    let at-link-fault = c .before .before .before in
+    let at-loop = at-link-fault .before .before .before in (
+      omega arith,
+      at-link-fault .link-fault .ensures .1 (c .if1 .left),
+      clear-more _ _ (at-loop .loop .inv .2) (sym (at-link-fault .link-fault .ensures .0) ∙ c .if1 .left),
+    )
 
 same-length-2 : tie.Need-same-length-2 Inv-loop μ-loop
 same-length-2 c = c .before .loop .inv .1 .long ∙ sym (zeros-long _ _ (c .before .before .before .before .pre .1))

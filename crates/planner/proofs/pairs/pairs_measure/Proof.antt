@@ -41,7 +41,10 @@ shared-slice-read-if1 : tie.Need-shared-slice-read-if1 Inv-loop μ-loop Inv-pair
 shared-slice-read-if1 c = omega arith
 
 cast-if1 : tie.Need-cast-if1 Inv-loop μ-loop Inv-pairs μ-pairs
-cast-if1 c = omega (arith, c .shared-slice-known3 .given (256 * c .before .before .before .before .before .pairs .a + c .before .before .before .loop .b))
+cast-if1 c =
+    let at-loop = c .before .before .before in
+    let at-pairs = at-loop .before .before in
+    omega (arith, c .shared-slice-known3 .given (256 * at-pairs .pairs .a + at-loop .loop .b))
 
 add-b : tie.Need-add-b Inv-loop μ-loop Inv-pairs μ-pairs
 add-b c = omega arith
@@ -62,8 +65,12 @@ pairs-less c = omega arith
 
 pairs-again : tie.Need-pairs-again Inv-loop μ-loop Inv-pairs μ-pairs
 pairs-again c =
-    let e : c .before .loop .b ≡ c .before .before .before .pairs .a = omega arith in
-    (omega arith, c .before .loop .inv .1, more-pairs _ _ _ (c .before .before .before .pairs .inv .2) (λ x h. c .before .loop .inv .2 x (omega arith)))
+    let e : c .before .loop .b ≡ c .before .before .before .pairs .a = omega arith in (
+      omega arith,
+      c .before .loop .inv .1,
+      more-pairs _ _ _ (c .before .before .before .pairs .inv .2)
+          (λ x h. c .before .loop .inv .2 x (omega arith)),
+    )
 
 returns : tie.Need-returns Inv-loop μ-loop Inv-pairs μ-pairs
 returns c =

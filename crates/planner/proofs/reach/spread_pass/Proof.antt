@@ -30,7 +30,9 @@ loop-less : tie.Need-loop-less Inv-loop μ-loop
 loop-less c = omega arith
 
 loop-again : tie.Need-loop-again Inv-loop μ-loop
-loop-again c = (omega arith, then-spread _ _ _ _ _ _ _ _ _ (c .before .before .before .before .before .loop .inv .1) (c .before .before .spread-link .ensures))
+loop-again c =
+    let at-loop = c .before .before .before .before .before in
+    (omega arith, then-spread _ _ _ _ _ _ _ _ _ (at-loop .loop .inv .1) (c .before .before .spread-link .ensures))
 
 same-length : tie.Need-same-length Inv-loop μ-loop
 same-length c = c .before .loop .inv .1 .flagged .long ∙ sym (c .before .before .before .before .pre .1 .long)

@@ -39,11 +39,13 @@ loop-less c = omega arith
 
 loop-again : tie.Need-loop-again Inv-loop μ-loop
 loop-again c =
+    let at-args = c .before .before .before .before .before in
     let l = c .before .before .loop in
-    let a = c .before .before .before .before .before .args in (
+    let a = at-args .args in (
       omega arith,
       appended-byte (a .at) (l .t) _ _ (tabulate (l .t) (word-byte (a .words .now) (a .c))) _ _ (length-tabulate (l .t) _) (omega arith)
-          (tabulate-snoc (l .t) (word-byte (a .words .now) (a .c)) ∙ ap (λ (x : ℕ). tabulate (l .t) (word-byte (a .words .now) (a .c)) ++ (x ∷ [])) (sym (c .address-byte .ensures))) (l .inv .1),
+          (tabulate-snoc (l .t) (word-byte (a .words .now) (a .c)) ∙ ap
+          (λ (x : ℕ). tabulate (l .t) (word-byte (a .words .now) (a .c)) ++ (x ∷ [])) (sym (c .address-byte .ensures))) (l .inv .1),
     )
 
 same-length : tie.Need-same-length Inv-loop μ-loop

@@ -20,10 +20,24 @@ loop-holds : tie.Need-loop-holds Inv-loop μ-loop
 loop-holds c = (omega arith, appended-none _ _)
 
 mul-put-address : tie.Need-mul-put-address Inv-loop μ-loop
-mul-put-address c = omega (arith, address-room (c .before .before .loop .c) (c .before .before .before .before .before .args .n) (c .before .before .before .before .before .args .size) (omega arith), addresses-room (c .before .before .before .before .before .args .n) (c .before .before .before .before .before .args .size) (omega arith) (omega arith))
+mul-put-address c =
+    let at-args = c .before .before .before .before .before in
+    omega (
+      arith,
+      address-room (c .before .before .loop .c) (at-args .args .n) (at-args .args .size)
+          (omega arith),
+      addresses-room (at-args .args .n) (at-args .args .size) (omega arith) (omega arith),
+    )
 
 add-put-address : tie.Need-add-put-address Inv-loop μ-loop
-add-put-address c = omega (arith, address-room (c .before .before .loop .c) (c .before .before .before .before .before .args .n) (c .before .before .before .before .before .args .size) (omega arith), addresses-room (c .before .before .before .before .before .args .n) (c .before .before .before .before .before .args .size) (omega arith) (omega arith))
+add-put-address c =
+    let at-args = c .before .before .before .before .before in
+    omega (
+      arith,
+      address-room (c .before .before .loop .c) (at-args .args .n) (at-args .args .size)
+          (omega arith),
+      addresses-room (at-args .args .n) (at-args .args .size) (omega arith) (omega arith),
+    )
 
 put-address-requires : tie.Need-put-address-requires Inv-loop μ-loop
 put-address-requires c κs =
@@ -40,9 +54,15 @@ loop-less c = omega arith
 
 loop-again : tie.Need-loop-again Inv-loop μ-loop
 loop-again c =
-    let a = c .before .before .before .before .before .before .before .before .args in
-    let l = c .before .before .before .before .before .loop in
-    (omega arith, appended-block (a .at) (l .c) (a .size) _ _ _ (λ i. tabulate (a .size) (word-byte (a .words .now) i)) (λ i. length-tabulate (a .size) (word-byte (a .words .now) i)) (c .before .before .put-address .kept .1 .1 .1 .0) (l .inv .1) (c .before .before .put-address .ensures))
+    let at-loop = c .before .before .before .before .before in
+    let at-args = at-loop .before .before .before in
+    let a = at-args .args in
+    let l = at-loop .loop in (
+      omega arith,
+      appended-block (a .at) (l .c) (a .size) _ _ _ (λ i. tabulate (a .size) (word-byte (a .words .now) i))
+          (λ i. length-tabulate (a .size) (word-byte (a .words .now) i)) (c .before .before .put-address .kept .1 .1 .1 .0)
+          (l .inv .1) (c .before .before .put-address .ensures),
+    )
 
 same-length : tie.Need-same-length Inv-loop μ-loop
 same-length c = c .before .loop .inv .1 .long
@@ -52,7 +72,8 @@ returns c =
     let l = c .before .loop in
     let a = c .before .before .before .before .args in
     let e : l .c ≡ a .n = omega arith in
-    subst (λ (k : ℕ). Appends (a .at) (a .output .now) (l .output) (blocks k (λ i. tabulate (a .size) (word-byte (a .words .now) i)))) e (l .inv .1 .adds)
+    subst (λ (k : ℕ). Appends (a .at) (a .output .now) (l .output)
+    (blocks k (λ i. tabulate (a .size) (word-byte (a .words .now) i)))) e (l .inv .1 .adds)
 
 pub put-addresses-spec : {M : Type 1} → statement M
 put-addresses-spec =

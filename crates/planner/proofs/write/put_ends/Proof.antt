@@ -45,13 +45,18 @@ loop-less c = omega arith
 
 loop-again : tie.Need-loop-again Inv-loop μ-loop
 loop-again c =
-    let a = c .before .before .before .before .before .before .before .before .before .args in
-    let l = c .before .before .before .before .before .before .loop in
+    let at-number-at = c .before .before .before in
+    let at-loop = at-number-at .before .before .before in
+    let at-args = at-loop .before .before .before in
+    let a = at-args .args in
+    let l = at-loop .loop in
     let e : 6 + 2 * l .i ≡ 6 + l .i * 2 = omega arith in (
       omega arith,
-      appended-block 6 (l .i) 2 _ _ _ (end-pair (a .file .now)) (λ i. length-two-bytes (number-at (a .file .now) (4 + 2 * i))) (c .before .before .put-number .kept .0) (l .inv .1)
+      appended-block 6 (l .i) 2 _ _ _ (end-pair (a .file .now))
+          (λ i. length-two-bytes (number-at (a .file .now) (4 + 2 * i))) (c .before .before .put-number .kept .0) (l .inv .1)
           (subst (λ (p : ℕ). Appends p (l .output) (c .before .before .put-number .last .0) (end-pair (a .file .now) (l .i))) e
-          (subst (λ (v : ℕ). Appends (6 + 2 * l .i) (l .output) (c .before .before .put-number .last .0) (two-bytes v)) (c .before .before .before .number-at .ensures .0) (c .before .before .put-number .ensures))),
+          (subst (λ (v : ℕ). Appends (6 + 2 * l .i) (l .output) (c .before .before .put-number .last .0) (two-bytes v))
+          (at-number-at .number-at .ensures .0) (c .before .before .put-number .ensures))),
     )
 
 same-length : tie.Need-same-length Inv-loop μ-loop

@@ -20,8 +20,10 @@ mul-put-ends c = search needs
 
 put-ends-requires : tie.Need-put-ends-requires
 put-ends-requires c κs =
-    let p = c .before .before .before .before .before .before .before .before .pre in
-    (omega (arith, p .0 .long), omega (arith, p .0 .few-links, c .before .before .before .put-sizes .kept .0, ap length (p .3), length-replicate {A = ℕ} 16390 0))
+    let at-put-sizes = c .before .before .before in
+    let at-pre = at-put-sizes .before .before .before .before .before in
+    let p = at-pre .pre in
+    (omega (arith, p .0 .long), omega (arith, p .0 .few-links, at-put-sizes .put-sizes .kept .0, ap length (p .3), length-replicate {A = ℕ} 16390 0))
 
 mul-put-addresses : tie.Need-mul-put-addresses
 mul-put-addresses c = search needs
@@ -68,10 +70,13 @@ same-length c = search needs
 returns : tie.Need-returns
 unfolding address-size
 returns c =
-    let s = c .before .before .before .before .before .before .before .before .before .before .before .before .before .before .before in (
-      plan-written (s .args .file .now) (s .args .words .now) (s .args .n) (s .args .m) (s .args .k) (s .pre .0) _ _ _ _ (s .pre .3)
-          (c .before .before .before .before .before .before .before .before .before .before .put-sizes .ensures) (c .before .before .before .before .before .before .put-ends .ensures) (c .before .before .put-addresses .ensures),
-      plan-length (s .args .file .now) (s .args .words .now) (s .args .n) (s .args .m) (s .args .k) (s .pre .0),
+    let at-put-ends = c .before .before .before .before .before .before in
+    let at-put-sizes = at-put-ends .before .before .before .before in
+    let at-args = at-put-sizes .before .before .before .before .before in (
+      plan-written (at-args .args .file .now) (at-args .args .words .now) (at-args .args .n) (at-args .args .m)
+          (at-args .args .k) (at-args .pre .0) _ _ _ _ (at-args .pre .3)
+          (at-put-sizes .put-sizes .ensures) (at-put-ends .put-ends .ensures) (c .before .before .put-addresses .ensures),
+      plan-length (at-args .args .file .now) (at-args .args .words .now) (at-args .args .n) (at-args .args .m) (at-args .args .k) (at-args .pre .0),
     )
 
 pub put-plan-spec : {M : Type 1} → statement M

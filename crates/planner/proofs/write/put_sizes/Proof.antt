@@ -17,7 +17,10 @@ same-length : tie.Need-same-length
 same-length c = search needs
 
 returns : tie.Need-returns
-returns c = sizes-appended _ _ _ _ _ _ _ (c .before .before .before .before .before .before .before .before .before .before .put-number .ensures) (c .before .before .before .before .before .before .put-number2 .ensures) (c .before .before .put-number3 .ensures)
+returns c =
+    let at-put-number2 = c .before .before .before .before .before .before in
+    let at-put-number = at-put-number2 .before .before .before .before in
+    sizes-appended _ _ _ _ _ _ _ (at-put-number .put-number .ensures) (at-put-number2 .put-number2 .ensures) (c .before .before .put-number3 .ensures)
 
 pub put-sizes-spec : {M : Type 1} → statement M
 put-sizes-spec =

@@ -38,8 +38,19 @@ loop-again c =
     let l = c .before .before .loop in
     let z = c .before .before .before .args .z in
     let e : 8 * (l .i + 1) ≡ 8 * l .i + 8 = omega arith in
-    let w : l .rest % 256 ≡ z / 2 ^ (8 * l .i) % 256 = ap (λ (x : ℕ). x % 256) (l .inv .1) in
-    (omega arith, rw (e, l .inv .1) (shr-shr z (8 * l .i) 8), rw e (omega (arith, l .inv .2, c .before .before .before .pre .ones (l .rest % 256) (omega arith), ap (λ (x : ℕ). ones-in 8 x) w, ones-byte z (8 * l .i))))
+    let w : l .rest % 256 ≡ z / 2 ^ (8 * l .i) % 256 = ap (λ (x : ℕ). x % 256) (l .inv .1) in (
+      omega arith,
+      rw (e, l .inv .1) (shr-shr z (8 * l .i) 8),
+      rw e
+          (omega (
+            arith,
+            l .inv .2,
+            c .before .before .before .pre .ones (l .rest % 256) (omega arith),
+            ap
+                (λ (x : ℕ). ones-in 8 x) w,
+            ones-byte z (8 * l .i),
+          )),
+    )
 
 returns : tie.Need-returns Inv-loop μ-loop
 returns c =

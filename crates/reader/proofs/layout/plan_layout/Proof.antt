@@ -87,11 +87,15 @@ cast-t15 c = search needs
 
 returns-7 : tie.Need-returns-7
 returns-7 c =
-    let n = c .before .before .before .before .before .before .before .number-at in
-    let m = c .before .before .before .before .before .before .number-at2 in
-    let k = c .before .before .before .before .before .number-at3 in
+    let at-number-at3 = c .before .before .before .before .before in
+    let at-number-at2 = at-number-at3 .before in
+    let at-number-at = at-number-at2 .before in
+    let n = at-number-at .number-at in
+    let m = at-number-at2 .number-at2 in
+    let k = at-number-at3 .number-at3 in
     layout-passed _ _
-    (long-layout _ (n .result) (m .result) (k .result) (n .ensures .0, m .ensures .0, k .ensures .0) (omega arith) (omega arith) (omega arith) (omega arith) (omega arith) (omega arith))
+    (long-layout _ (n .result) (m .result) (k .result) (n .ensures .0, m .ensures .0, k .ensures .0) (omega arith)
+    (omega arith) (omega arith) (omega arith) (omega arith) (omega arith))
     (record { number = refl; cards = n .ensures .0; links = m .ensures .0; columns = k .ensures .0 })
 
 pub plan-layout-spec : {M : Type 1} → statement M

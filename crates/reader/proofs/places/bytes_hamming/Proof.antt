@@ -34,7 +34,15 @@ byte-hamming-requires : tie.Need-byte-hamming-requires Inv-loop μ-loop
 byte-hamming-requires c κs = c .before .before .before .before .before .pre .0
 
 add-sum : tie.Need-add-sum Inv-loop μ-loop
-add-sum c = omega (arith, c .before .before .before .before .loop .inv .1, hamming-le (8 * c .before .before .before .before .loop .t) (bit-from (c .before .before .before .before .before .before .args .plan .now) (c .before .before .before .before .before .before .args .first)) (bit-from (c .before .before .before .before .before .before .args .plan .now) (c .before .before .before .before .before .before .args .second)))
+add-sum c =
+    let at-loop = c .before .before .before .before in
+    let at-args = at-loop .before .before in
+    omega (
+      arith,
+      at-loop .loop .inv .1,
+      hamming-le (8 * at-loop .loop .t)
+          (bit-from (at-args .args .plan .now) (at-args .args .first)) (bit-from (at-args .args .plan .now) (at-args .args .second)),
+    )
 
 add-t : tie.Need-add-t Inv-loop μ-loop
 add-t c = omega arith
@@ -44,10 +52,20 @@ loop-less c = omega arith
 
 loop-again : tie.Need-loop-again Inv-loop μ-loop
 loop-again c =
-    let l = c .before .before .before .before .loop in
-    let a = c .before .before .before .before .before .before .args in
-    let e : 8 * (l .t + 1) ≡ 8 * l .t + 8 = omega arith in
-    (omega arith, rw e (omega (arith, l .inv .1, c .byte-hamming .ensures .0, hamming-bytes (a .plan .now) (a .first) (a .second) (l .t) 8 (omega arith))))
+    let at-loop = c .before .before .before .before in
+    let at-args = at-loop .before .before in
+    let l = at-loop .loop in
+    let a = at-args .args in
+    let e : 8 * (l .t + 1) ≡ 8 * l .t + 8 = omega arith in (
+      omega arith,
+      rw e (omega (
+        arith,
+        l .inv .1,
+        c .byte-hamming .ensures .0,
+        hamming-bytes (a .plan .now) (a .first)
+            (a .second) (l .t) 8 (omega arith),
+      )),
+    )
 
 returns : tie.Need-returns Inv-loop μ-loop
 returns c =

@@ -46,8 +46,11 @@ bytes-hamming-requires c κs = let k = known (c .before) in (c .before .pre .0, 
 returns : tie.Need-returns
 returns c =
     let s = c .before .before .before in
-    let e = plan-hamming-whole (s .args .plan .now) (s .args .n) (s .args .m) (s .args .k) (s .pre .1) (s .args .a) (s .args .b) (omega arith) in
-    (c .before .bytes-hamming .ensures ∙ sym e, omega (arith, e, c .before .bytes-hamming .ensures, hamming-columns (s .args .plan .now) (s .args .a) (s .args .b)))
+    let e = plan-hamming-whole (s .args .plan .now) (s .args .n) (s .args .m) (s .args .k) (s .pre .1) (s .args .a) (s .args .b) (omega arith) in (
+      c .before .bytes-hamming .ensures ∙ sym e,
+      omega
+          (arith, e, c .before .bytes-hamming .ensures, hamming-columns (s .args .plan .now) (s .args .a) (s .args .b)),
+    )
 
 add-low-hamming : tie.Need-add-low-hamming
 add-low-hamming c = omega (arith, known (c .before .before .before))

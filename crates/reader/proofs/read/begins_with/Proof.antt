@@ -24,7 +24,10 @@ shared-slice-read-if1-2 : tie.Need-shared-slice-read-if1-2 Inv-loop μ-loop
 shared-slice-read-if1-2 c = omega arith
 
 returns : tie.Need-returns Inv-loop μ-loop
-returns c = beginning-other (c .before .before .before .before .before .args .written .now) (c .before .before .before .before .before .args .plan .now) (c .before .before .before .before .before .pre) (c .before .before .before .before .loop .i) (omega arith) (c .if1 .taken)
+returns c =
+    let at-loop = c .before .before .before .before in
+    let at-args = at-loop .before in
+    beginning-other (at-args .args .written .now) (at-args .args .plan .now) (at-args .pre) (at-loop .loop .i) (omega arith) (c .if1 .taken)
 
 add-i : tie.Need-add-i Inv-loop μ-loop
 add-i c = omega arith

@@ -18,7 +18,11 @@ part-result-end : tie.Need-part-result-end
 part-result-end c = search needs
 
 returns : tie.Need-returns
-returns c = address-refused (c .before .before .before .before .before .args .plan .now) (c .before .before .before .before .before .args .card) (c .before .before .before .read-plan .result) (c .before .before .before .read-plan .ensures .0) (c .before .if1 .taken)
+returns c =
+    let at-read-plan = c .before .before .before in
+    let at-args = at-read-plan .before .before in
+    address-refused (at-args .args .plan .now) (at-args .args .card) (at-read-plan .read-plan .result)
+    (at-read-plan .read-plan .ensures .0) (c .before .if1 .taken)
 
 sub-result-2 : tie.Need-sub-result-2
 sub-result-2 c = search needs
@@ -30,10 +34,23 @@ part-result-end-2 : tie.Need-part-result-end-2
 part-result-end-2 c = search needs
 
 returns-2 : tie.Need-returns-2
-returns-2 c = address-outside (c .before .before .before .before .before .before .before .args .plan .now) (c .before .before .before .before .before .before .before .args .card) (c .before .before .before .before .before .read-plan .result) (c .before .before .before .before .before .read-plan .ensures .0) (c .before .before .before .if1 .left) (c .before .if2 .taken)
+returns-2 c =
+    let at-if1 = c .before .before .before in
+    let at-read-plan = at-if1 .before .before in
+    let at-args = at-read-plan .before .before in
+    address-outside (at-args .args .plan .now) (at-args .args .card) (at-read-plan .read-plan .result)
+    (at-read-plan .read-plan .ensures .0) (at-if1 .if1 .left) (c .before .if2 .taken)
 
 add-size : tie.Need-add-size
-add-size c = omega (arith, address-place (c .before .before .before .before .before .before .before .args .plan .now) (c .before .before .before .before .before .before .before .args .card) (c .before .before .before .before .before .read-plan .result) (c .before .before .before .before .before .read-plan .ensures .0) (c .before .before .before .if1 .left) (omega (arith, c .before .if2 .left)) .columns)
+add-size c =
+    let at-if1 = c .before .before .before in
+    let at-read-plan = at-if1 .before .before in
+    let at-args = at-read-plan .before .before in
+    omega (
+      arith,
+      address-place (at-args .args .plan .now) (at-args .args .card) (at-read-plan .read-plan .result)
+          (at-read-plan .read-plan .ensures .0) (at-if1 .if1 .left) (omega (arith, c .before .if2 .left)) .columns,
+    )
 
 cast-size : tie.Need-cast-size
 cast-size c = search needs
@@ -48,13 +65,37 @@ add-start : tie.Need-add-start
 add-start c = search needs
 
 mul-start-2 : tie.Need-mul-start-2
-mul-start-2 c = omega (arith, address-place (c .before .before .before .before .before .before .before .before .args .plan .now) (c .before .before .before .before .before .before .before .before .args .card) (c .before .before .before .before .before .before .read-plan .result) (c .before .before .before .before .before .before .read-plan .ensures .0) (c .before .before .before .before .if1 .left) (omega (arith, c .before .before .if2 .left)))
+mul-start-2 c =
+    let at-if1 = c .before .before .before .before in
+    let at-read-plan = at-if1 .before .before in
+    let at-args = at-read-plan .before .before in
+    omega (
+      arith,
+      address-place (at-args .args .plan .now) (at-args .args .card) (at-read-plan .read-plan .result)
+          (at-read-plan .read-plan .ensures .0) (at-if1 .if1 .left) (omega (arith, c .before .before .if2 .left)),
+    )
 
 add-start-2 : tie.Need-add-start-2
-add-start-2 c = omega (arith, address-place (c .before .before .before .before .before .before .before .before .args .plan .now) (c .before .before .before .before .before .before .before .before .args .card) (c .before .before .before .before .before .before .read-plan .result) (c .before .before .before .before .before .before .read-plan .ensures .0) (c .before .before .before .before .if1 .left) (omega (arith, c .before .before .if2 .left)))
+add-start-2 c =
+    let at-if1 = c .before .before .before .before in
+    let at-read-plan = at-if1 .before .before in
+    let at-args = at-read-plan .before .before in
+    omega (
+      arith,
+      address-place (at-args .args .plan .now) (at-args .args .card) (at-read-plan .read-plan .result)
+          (at-read-plan .read-plan .ensures .0) (at-if1 .if1 .left) (omega (arith, c .before .before .if2 .left)),
+    )
 
 add-end : tie.Need-add-end
-add-end c = omega (arith, address-place (c .before .before .before .before .before .before .before .before .args .plan .now) (c .before .before .before .before .before .before .before .before .args .card) (c .before .before .before .before .before .before .read-plan .result) (c .before .before .before .before .before .before .read-plan .ensures .0) (c .before .before .before .before .if1 .left) (omega (arith, c .before .before .if2 .left)))
+add-end c =
+    let at-if1 = c .before .before .before .before in
+    let at-read-plan = at-if1 .before .before in
+    let at-args = at-read-plan .before .before in
+    omega (
+      arith,
+      address-place (at-args .args .plan .now) (at-args .args .card) (at-read-plan .read-plan .result)
+          (at-read-plan .read-plan .ensures .0) (at-if1 .if1 .left) (omega (arith, c .before .before .if2 .left)),
+    )
 
 sub-result-3 : tie.Need-sub-result-3
 sub-result-3 c = search needs
@@ -63,10 +104,24 @@ part-result-start-3 : tie.Need-part-result-start-3
 part-result-start-3 c = search needs
 
 part-result-end-3 : tie.Need-part-result-end-3
-part-result-end-3 c = omega (arith, address-place (c .before .before .before .before .before .before .before .before .args .plan .now) (c .before .before .before .before .before .before .before .before .args .card) (c .before .before .before .before .before .before .read-plan .result) (c .before .before .before .before .before .before .read-plan .ensures .0) (c .before .before .before .before .if1 .left) (omega (arith, c .before .before .if2 .left)))
+part-result-end-3 c =
+    let at-if1 = c .before .before .before .before in
+    let at-read-plan = at-if1 .before .before in
+    let at-args = at-read-plan .before .before in
+    omega (
+      arith,
+      address-place (at-args .args .plan .now) (at-args .args .card) (at-read-plan .read-plan .result)
+          (at-read-plan .read-plan .ensures .0) (at-if1 .if1 .left) (omega (arith, c .before .before .if2 .left)),
+    )
 
 returns-3 : tie.Need-returns-3
-returns-3 c = address-inside (c .before .before .before .before .before .before .before .before .before .args .plan .now) (c .before .before .before .before .before .before .before .before .before .args .card) (c .before .before .before .before .before .before .before .read-plan .result) (c .before .before .before .before .before .before .before .read-plan .ensures .0) (c .before .before .before .before .before .if1 .left) (omega (arith, c .before .before .before .if2 .left))
+returns-3 c =
+    let at-if2 = c .before .before .before in
+    let at-if1 = at-if2 .before .before in
+    let at-read-plan = at-if1 .before .before in
+    let at-args = at-read-plan .before .before in
+    address-inside (at-args .args .plan .now) (at-args .args .card) (at-read-plan .read-plan .result)
+    (at-read-plan .read-plan .ensures .0) (at-if1 .if1 .left) (omega (arith, at-if2 .if2 .left))
 
 pub card-address-spec : {M : Type 1} → statement M
 card-address-spec =

@@ -33,7 +33,9 @@ part-write-plan-start : tie.Need-part-write-plan-start
 part-write-plan-start c = search needs
 
 part-write-plan-end : tie.Need-part-write-plan-end
-part-write-plan-end c = omega (arith, layout-facts _ (c .before .before .before .before .before .pre .0) .links, c .before .before .inner-file .kept .1 .1 .0)
+part-write-plan-end c =
+    let at-pre = c .before .before .before .before .before in
+    omega (arith, layout-facts _ (at-pre .pre .0) .links, c .before .before .inner-file .kept .1 .1 .0)
 
 slice-aggregate-write-plan : tie.Need-slice-aggregate-write-plan
 slice-aggregate-write-plan c = search needs
@@ -42,22 +44,49 @@ write-plan-requires : tie.Need-write-plan-requires
 write-plan-requires c κs = search needs
 
 returns : tie.Need-returns
-returns c = sym (content-refused (c .before .before .before .before .before .before .before .before .before .before .before .args .plan .now) _ (c .before .before .before .before .before .before .before .before .before .before .before .pre .0) (inner-lent _ _ _ (c .before .before .before .before .before .before .before .before .before .before .before .pre .1) (c .before .before .before .before .before .before .before .before .inner-file .ensures)) (c .before .before .before .write-plan .result) _ _ (length-replicate {A = ℕ} 16390 0) (c .before .before .before .write-plan .ensures) (c .if1 .taken))
+returns c =
+    let at-write-plan = c .before .before .before in
+    let at-inner-file = at-write-plan .before .before .before .before .before in
+    let at-args = at-inner-file .before .before .before in
+    sym (content-refused (at-args .args .plan .now) _ (at-args .pre .0)
+    (inner-lent _ _ _ (at-args .pre .1) (at-inner-file .inner-file .ensures)) (at-write-plan .write-plan .result) _ _
+    (length-replicate {A = ℕ} 16390 0) (at-write-plan .write-plan .ensures) (c .if1 .taken))
 
 cast-if2 : tie.Need-cast-if2
 cast-if2 c = search needs
 
 returns-2 : tie.Need-returns-2
-returns-2 c = sym (content-other-length (c .before .before .before .before .before .before .before .before .before .before .before .before .before .args .plan .now) _ (c .before .before .before .before .before .before .before .before .before .before .before .before .before .pre .0) (inner-lent _ _ _ (c .before .before .before .before .before .before .before .before .before .before .before .before .before .pre .1) (c .before .before .before .before .before .before .before .before .before .before .inner-file .ensures)) (c .before .before .before .before .before .write-plan .result) _ _ (length-replicate {A = ℕ} 16390 0) (c .before .before .before .before .before .write-plan .ensures) (c .before .before .if1 .left) (c .if2 .taken))
+returns-2 c =
+    let at-write-plan = c .before .before .before .before .before in
+    let at-inner-file = at-write-plan .before .before .before .before .before in
+    let at-args = at-inner-file .before .before .before in
+    sym (content-other-length (at-args .args .plan .now) _ (at-args .pre .0)
+    (inner-lent _ _ _ (at-args .pre .1) (at-inner-file .inner-file .ensures)) (at-write-plan .write-plan .result) _ _
+    (length-replicate {A = ℕ} 16390 0) (at-write-plan .write-plan .ensures) (c .before .before .if1 .left) (c .if2 .taken))
 
 slice-aggregate-begins-with : tie.Need-slice-aggregate-begins-with
 slice-aggregate-begins-with c = search needs
 
 begins-with-requires : tie.Need-begins-with-requires
-begins-with-requires c κs = content-room (c .before .before .before .before .before .before .before .before .before .before .before .before .before .before .args .plan .now) _ (c .before .before .before .before .before .before .before .before .before .before .before .before .before .before .pre .0) (inner-lent _ _ _ (c .before .before .before .before .before .before .before .before .before .before .before .before .before .before .pre .1) (c .before .before .before .before .before .before .before .before .before .before .before .inner-file .ensures)) (c .before .before .before .before .before .before .write-plan .result) _ _ (length-replicate {A = ℕ} 16390 0) (c .before .before .before .before .before .before .write-plan .ensures) (c .before .before .before .if1 .left) (c .before .if2 .left)
+begins-with-requires c κs =
+    let at-if1 = c .before .before .before in
+    let at-write-plan = at-if1 .before .before .before in
+    let at-inner-file = at-write-plan .before .before .before .before .before in
+    let at-args = at-inner-file .before .before .before in
+    content-room (at-args .args .plan .now) _ (at-args .pre .0)
+    (inner-lent _ _ _ (at-args .pre .1) (at-inner-file .inner-file .ensures)) (at-write-plan .write-plan .result) _ _
+    (length-replicate {A = ℕ} 16390 0) (at-write-plan .write-plan .ensures) (at-if1 .if1 .left) (c .before .if2 .left)
 
 returns-3 : tie.Need-returns-3
-returns-3 c = sym (content-as-compared (c .before .before .before .before .before .before .before .before .before .before .before .before .before .before .before .args .plan .now) _ (c .before .before .before .before .before .before .before .before .before .before .before .before .before .before .before .pre .0) (inner-lent _ _ _ (c .before .before .before .before .before .before .before .before .before .before .before .before .before .before .before .pre .1) (c .before .before .before .before .before .before .before .before .before .before .before .before .inner-file .ensures)) (c .before .before .before .before .before .before .before .write-plan .result) _ _ (length-replicate {A = ℕ} 16390 0) (c .before .before .before .before .before .before .before .write-plan .ensures) (c .before .before .before .before .if1 .left) (c .before .before .if2 .left) _ (c .begins-with .ensures))
+returns-3 c =
+    let at-if1 = c .before .before .before .before in
+    let at-write-plan = at-if1 .before .before .before in
+    let at-inner-file = at-write-plan .before .before .before .before .before in
+    let at-args = at-inner-file .before .before .before in
+    sym (content-as-compared (at-args .args .plan .now) _ (at-args .pre .0)
+    (inner-lent _ _ _ (at-args .pre .1) (at-inner-file .inner-file .ensures)) (at-write-plan .write-plan .result) _ _
+    (length-replicate {A = ℕ} 16390 0) (at-write-plan .write-plan .ensures) (at-if1 .if1 .left)
+    (c .before .before .if2 .left) _ (c .begins-with .ensures))
 
 pub content-holds-spec : {M : Type 1} → statement M
 content-holds-spec =

@@ -39,8 +39,11 @@ loop-less c = omega arith
 loop-again : tie.Need-loop-again Inv-loop μ-loop
 loop-again c =
     let l = c .before .before .loop in
-    let a = c .before .before .before .args in
-    (omega arith, appended-byte (a .at) (l .i) _ _ _ _ _ (length-part (a .start) (l .i) (a .plan .now) (omega arith)) (omega arith) (part-snoc (a .start) (l .i) (a .plan .now) (omega arith)) (l .inv .1))
+    let a = c .before .before .before .args in (
+      omega arith,
+      appended-byte (a .at) (l .i) _ _ _ _ _ (length-part (a .start) (l .i) (a .plan .now) (omega arith))
+          (omega arith) (part-snoc (a .start) (l .i) (a .plan .now) (omega arith)) (l .inv .1),
+    )
 
 same-length : tie.Need-same-length Inv-loop μ-loop
 same-length c = c .before .loop .inv .1 .long

@@ -19,10 +19,23 @@ content-holds-requires : tie.Need-content-holds-requires
 content-holds-requires c κs = (layout-passed _ (c .before .before .before .plan-layout .result) (c .before .before .before .plan-layout .ensures) (c .before .if1 .left), says-laid-out _ (c .before .before .before .plan-layout .result) (c .before .before .before .plan-layout .ensures) (c .before .if1 .left) .links)
 
 returns-2 : tie.Need-returns-2
-returns-2 c = let says = read-says-sizes (c .before .before .before .before .before .before .before .args .plan .now) (c .before .before .before .before .before .plan-layout .result) (c .before .before .before .before .before .plan-layout .ensures) (c .before .before .before .if1 .left) (sym (c .before .content-holds .ensures) ∙ c .if2 .taken) in (says, read-promise _ _ says)
+returns-2 c =
+    let at-if1 = c .before .before .before in
+    let at-plan-layout = at-if1 .before .before in
+    let at-args = at-plan-layout .before .before in
+    let says = read-says-sizes (at-args .args .plan .now) (at-plan-layout .plan-layout .result)
+    (at-plan-layout .plan-layout .ensures) (at-if1 .if1 .left) (sym (c .before .content-holds .ensures) ∙ c .if2 .taken) in
+    (says, read-promise _ _ says)
 
 returns-3 : tie.Need-returns-3
-returns-3 c = let says = read-says-content (c .before .before .before .before .before .before .before .args .plan .now) _ (layout-passed _ (c .before .before .before .before .before .plan-layout .result) (c .before .before .before .before .before .plan-layout .ensures) (c .before .before .before .if1 .left)) (sym (c .before .content-holds .ensures) ∙ c .if2 .left) (record { number = refl; cards = refl; links = refl; columns = refl }) in (says, read-promise _ _ says)
+returns-3 c =
+    let at-if1 = c .before .before .before in
+    let at-plan-layout = at-if1 .before .before in
+    let at-args = at-plan-layout .before .before in
+    let says = read-says-content (at-args .args .plan .now) _
+    (layout-passed _ (at-plan-layout .plan-layout .result) (at-plan-layout .plan-layout .ensures) (at-if1 .if1 .left))
+    (sym (c .before .content-holds .ensures) ∙ c .if2 .left)
+    (record { number = refl; cards = refl; links = refl; columns = refl }) in (says, read-promise _ _ says)
 
 pub read-plan-spec : {M : Type 1} → statement M
 read-plan-spec =
