@@ -16,7 +16,7 @@ use Rattle.rack.specs.Columns.{nearer-first, side, column}
 use Rattle.rack.proofs.Logic.{by-eq}
 use Rattle.rack.proofs.Bits.{bits-value-ext, bits-value-more, bits-value-few}
 use Rattle.rack.proofs.Columns.{column-bit}
-use Rattle.planner.specs.Tables.{cell, Hops-in}
+use Rattle.survey.specs.Tables.{cell, Hops-in}
 use Rattle.planner.specs.Opening.{bit-in, Words-of, side-in, Column-added}
 use Rattle.planner.proofs.AddressWords.{bit-past, bit-new, bit-old}
 

@@ -16,7 +16,7 @@ use Rattle.rack.proofs.Lists.{any-in, in-any, count-none, none-count}
 use Rattle.rack.proofs.Bits.{bits-value-number, bits-value-few}
 use Rattle.rack.proofs.Hamming.{hamming-ext, hamming-add, hamming-same}
 use Rattle.rack.proofs.Columns.{hamming-count}
-use Rattle.planner.specs.Tables.{word-bit}
+use Rattle.planner.specs.Words.{word-bit}
 use Rattle.planner.specs.Opening.{bit-in, separated, Words-of, words-hamming}
 
 -- THE FOUR WORDS of two cards

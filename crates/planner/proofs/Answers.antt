@@ -13,7 +13,7 @@ use Rattle.rack.specs.WiringFile.{file-wiring, sizes-fault, form-refusal, file-
 use Rattle.rack.proofs.Logic.{by-bool}
 use Rattle.rack.proofs.Refusals.{or-else-first, or-else-second, embeds-embedding, embedding-embeds}
 use Rattle.rack.proofs.Acceptance.{connected-refusal}
-use Rattle.planner.specs.Tables.{Hops-in}
+use Rattle.survey.specs.Tables.{Hops-in}
 use Rattle.planner.specs.Opening.{Words-of}
 use Rattle.planner.specs.Stages.{Planned-as}
 use Rattle.planner.specs.Planning.{lent-words, lent-hops}

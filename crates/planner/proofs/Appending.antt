@@ -11,7 +11,7 @@ use Rattle.rack.specs.WiringFile.{number-at, two-bytes}
 use Rattle.rack.proofs.Tables.{length-tabulate, length-blocks}
 use Rattle.rack.proofs.WiringFile.{length-two-bytes}
 use Rattle.planner.specs.PlanBytes.{address-size}
-use Rattle.planner.specs.Formed.{Sizes-are}
+use Rattle.survey.specs.Formed.{Sizes-are}
 use Rattle.planner.specs.Writing.{Written, Appends, end-pair, word-byte, written-bytes}
 
 -- ONE BYTE more

@@ -17,7 +17,8 @@ use Rattle.rack.specs.Columns.{columns, address}
 use Rattle.rack.proofs.Logic.{by-lt}
 use Rattle.rack.proofs.Tables.{length-tabulate, getD-tabulate, length-blocks, getD-blocks}
 use Rattle.rack.proofs.Bits.{bits-value-number}
-use Rattle.planner.specs.Tables.{cell, word-bit, Hops-in}
+use Rattle.survey.specs.Tables.{cell, Hops-in}
+use Rattle.planner.specs.Words.{word-bit}
 use Rattle.planner.specs.Opening.{bit-in, Words-of}
 use Rattle.planner.specs.Planning.{card-words, all-words, all-hops}
 

@@ -1,12 +1,4 @@
 pub mod PlanBytes
-pub mod Zeros
-pub mod Forms
-pub mod Marks
-pub mod Flags
-pub mod Rows
-pub mod Passes
-pub mod FirstBounds
-pub mod Levels
 pub mod AddressWords
 pub mod AddedColumn
 pub mod OpenedLinks

@@ -14,7 +14,7 @@ use Rattle.rack.proofs.Hamming.{hamming-same, hamming-sym}
 use Rattle.rack.proofs.Crossing.{Rack}
 use Rattle.rack.proofs.Uniqueness.{addresses-embed}
 use Rattle.rack.proofs.FewColumns.{few-columns}
-use Rattle.planner.specs.Tables.{cell, Hops-in}
+use Rattle.survey.specs.Tables.{cell, Hops-in}
 use Rattle.planner.specs.Stages.{Addressed}
 use Rattle.planner.specs.Opening.{bit-in, opened, Words-of, Opened, words-hamming, Pairs-measure}
 use Rattle.planner.proofs.AddressWords.{words-hamming-columns}

@@ -13,8 +13,8 @@ use Rattle.rack.specs.Columns.{column, hamming}
 use Rattle.rack.specs.WiringFile.{file-wiring}
 use Rattle.rack.proofs.Logic.{by-bool, not-true-false}
 use Rattle.rack.proofs.WiringFile.{wiring-at-cards, wiring-at-count}
-use Rattle.planner.specs.Formed.{Formed}
-use Rattle.planner.specs.Tables.{Hops-in}
+use Rattle.survey.specs.Formed.{Formed}
+use Rattle.survey.specs.Tables.{Hops-in}
 use Rattle.planner.specs.Opening.{bit-in, separated, open-column, open-columns, opened, Words-of, Opened, Column-added, words-hamming}
 use Rattle.planner.proofs.AddressWords.{words-hamming-columns, separated-hamming, unseparated-hamming, zero-words}
 use Rattle.planner.proofs.AddedColumn.{free-place, words-added}

@@ -18,7 +18,8 @@ use Rattle.rack.proofs.Tables.{range-in}
 use Rattle.rack.proofs.Refusals.{well-formed-rack}
 use Rattle.rack.proofs.Acceptance.{embedding-accepted}
 use Rattle.rack.proofs.Promises.{no-addresses, addresses-embed, embedding-unique, few-columns, file-as-wiring}
-use Rattle.planner.specs.Tables.{cell, word-bit}
+use Rattle.survey.specs.Tables.{cell}
+use Rattle.planner.specs.Words.{word-bit}
 use Rattle.planner.specs.Planning.{lent-words, lent-hops, all-words, all-hops, left-in, planning-refusal, Plan-says, Asked, Addresses-found}
 use Rattle.planner.specs.declared.Answer.{Answer}
 use Rattle.planner.proofs.Contents.{word-bit-address, hops-at}

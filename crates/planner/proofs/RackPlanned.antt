@@ -12,14 +12,14 @@ use Rattle.rack.specs.Columns.{columns}
 use Rattle.rack.specs.Refusals.{Refusal, refusal, links-refusal, reach-refusal, parity-refusal, rack-refusal}
 use Rattle.rack.specs.WiringFile.{number-at, file-wiring, sizes-fault, file-refusal}
 use Rattle.rack.proofs.Acceptance.{reach-clear}
-use Rattle.planner.specs.Formed.{Fault-is, Formed}
-use Rattle.planner.specs.Tables.{Hops-in}
+use Rattle.survey.specs.Formed.{Fault-is, Formed}
+use Rattle.survey.specs.Tables.{Hops-in}
 use Rattle.planner.specs.Opening.{Words-of}
 use Rattle.planner.specs.Stages.{Addressed, Rack-planned, File-planned}
 use Rattle.planner.specs.Planning.{lent-words, lent-hops}
-use Rattle.planner.specs.declared.links.Fault.{Fault}
+use Rattle.survey.specs.declared.links.Fault.{Fault}
 use Rattle.planner.specs.declared.Answer.{Answer}
-use Rattle.planner.proofs.Forms.{sizes-are, formed}
+use Rattle.survey.proofs.Forms.{sizes-are, formed}
 use Rattle.planner.proofs.Answers.{refusal-of-sizes, refusal-of-links, refusal-of-rack, refusal-of-reach, refusal-of-parity, refusal-of-none, refusal-of-embedding, planned-refused, planned-found}
 
 -- A RACK: 9, 10, 11, or its plan

@@ -19,7 +19,7 @@ use Rattle.rack.proofs.Acceptance.{embedding-accepted}
 use Rattle.rack.proofs.Accepted.{wiring-accepted, file-clear}
 use Rattle.rack.proofs.WiringFile.{sized-clear, wiring-at-cards, wiring-at-count, wiring-at-link}
 use Rattle.planner.specs.PlanBytes.{address-size, address-bytes, plan-bytes}
-use Rattle.planner.specs.Formed.{Sizes-are}
+use Rattle.survey.specs.Formed.{Sizes-are}
 use Rattle.planner.specs.Opening.{bit-in, Words-of}
 use Rattle.planner.specs.Stages.{File-planned}
 use Rattle.planner.specs.Planning.{lent-plan, writing-refusal, Write-says}

@@ -1,9 +1,5 @@
 pub mod PlanBytes
-pub mod Formed
-pub mod Tables
-pub mod Marks
-pub mod Flags
-pub mod Lowering
+pub mod Words
 pub mod Opening
 pub mod Stages
 pub mod Planning

@@ -10,7 +10,8 @@ use Rattle.rack.specs.Lists.{differ, one, any}
 use Rattle.rack.specs.Bits.{bits-value}
 use Rattle.rack.specs.Wiring.{Link, Wiring}
 use Rattle.rack.specs.Columns.{column, hamming}
-use Rattle.planner.specs.Tables.{cell, word-bit}
+use Rattle.survey.specs.Tables.{cell}
+use Rattle.planner.specs.Words.{word-bit}
 
 -- bit j of card c in a list of columns, 0 past the last
 unfoldable pub bit-in : List (List Bool) → (c j : ℕ) → Bool

@@ -15,7 +15,8 @@ use Rattle.rack.specs.Refusals.{Refusal, refusal}
 use Rattle.rack.specs.WiringFile.{file-wiring, form-refusal, file-refusal}
 use Rattle.rack.specs.Embeddings.{reduced-columns, times}
 use Rattle.planner.specs.PlanBytes.{plan-bytes}
-use Rattle.planner.specs.Tables.{cell, word-bit}
+use Rattle.survey.specs.Tables.{cell}
+use Rattle.planner.specs.Words.{word-bit}
 use Rattle.planner.specs.declared.Answer.{Answer}
 
 -- the lengths of the lent buffers: words, hops, plan

@@ -4,7 +4,7 @@ ghost use Prim.Native.Nat.{_+_, _*_, _<_, _≤_};
 ghost use lib.ListN.{length, replicate};
 ghost use Rattle.rack.specs.Lists.{tabulate, blocks};
 ghost use Rattle.rack.specs.WiringFile.{two-bytes};
-ghost use Rattle.planner.specs.Formed.{Sizes-are};
+ghost use Rattle.survey.specs.Formed.{Sizes-are};
 ghost use Rattle.planner.specs.Writing.{Appends, Written, end-pair, word-byte, written-bytes};
 ghost use mathlib.Core.List.{_++_};
 use rack::bytes::number_at;

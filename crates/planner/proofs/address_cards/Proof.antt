@@ -3,7 +3,7 @@ use mathlib.Core.Path.{sym, _∙_, ap}
 use Prim.Native.Nat.{ℕ}
 use native.Mathlib.Omega.{arith}
 use lib.ListN.{length, length-replicate}
-use Rattle.planner.proofs.Forms.{formed-cards, formed-count, formed-rack}
+use Rattle.survey.proofs.Forms.{formed-cards, formed-count, formed-rack}
 use Rattle.planner.proofs.MeasuredPairs.{measured-addressed, unmeasured-addressed, full-addressed}
 use borrow.Author.Needs.{needs}
 use Rattle.planner.proofs.address_cards.Statement.{statement}

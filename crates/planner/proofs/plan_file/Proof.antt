@@ -4,8 +4,8 @@ use Prim.Native.Nat.{ℕ}
 use native.Mathlib.Omega.{arith}
 use lib.ListN.{replicate}
 use Rattle.rack.proofs.WiringFile.{sizes-clear}
-use Rattle.planner.proofs.Zeros.{zeros-long}
-use Rattle.planner.proofs.Forms.{sizes-are}
+use Rattle.survey.proofs.Zeros.{zeros-long}
+use Rattle.survey.proofs.Forms.{sizes-are}
 use Rattle.planner.proofs.RackPlanned.{sizes-planned, links-planned, links-formed, rack-file-planned}
 use mathlib.Core.List.{[]}
 use borrow.Author.Needs.{needs}

@@ -2,7 +2,7 @@
 use Prim.Native.Nat.{_-_}
 use native.Mathlib.Omega.{arith}
 use lib.ListN.{length}
-use Rattle.planner.proofs.Zeros.{Zeroed, zeroed-none, zeroed-more, zeroed-all}
+use Rattle.survey.proofs.Zeros.{Zeroed, zeroed-none, zeroed-more, zeroed-all}
 use Rattle.planner.proofs.fill.clear_words.Statement.{statement}
 use Rattle.planner.proofs.fill.clear_words.Tie as tie
 

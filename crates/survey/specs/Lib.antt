@@ -1,0 +1,5 @@
+pub mod Formed
+pub mod Tables
+pub mod Marks
+pub mod Flags
+pub mod Lowering

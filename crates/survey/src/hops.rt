@@ -1,0 +1,177 @@
+// Hops between all cards: upper bounds in a lent table, lowered over the links until no link lowers any; and refusal 10.
+ghost use mathlib.Core.Path.{_≡_};
+ghost use mathlib.Core.Bool.{true};
+ghost use Prim.Native.Nat.{_+_, _<_, _≤_, min, max};
+ghost use lib.ListN.{length};
+ghost use Rattle.rack.specs.Hops.{connected};
+ghost use Rattle.rack.specs.WiringFile.{file-wiring};
+ghost use Rattle.rack.specs.Refusals.{parity-refusal};
+ghost use Rattle.survey.specs.Formed.{Fault-is, Formed};
+ghost use Rattle.survey.specs.Tables.{Hops-in};
+ghost use Rattle.survey.specs.Lowering.{Above, Lowered, Passed, Started, Swept, first-bound};
+use crate::links::Fault;
+use crate::order::wide;
+use rack::bytes::first_end;
+use rack::bytes::second_end;
+
+// The lesser of `x` and one more than `y`.
+fn lesser(x: u8, y: u8) -> u8
+    ensures { λ r. ⌜ r ≡ min x (y + 1) ⌝ }
+{
+    if y < x { y + 1 } else { x }
+}
+
+fn larger(x: u8, y: u8) -> u8
+    ensures { λ r. ⌜ r ≡ max x y ⌝ }
+{
+    if x < y { y } else { x }
+}
+
+// Lowers row `to` to one more than row `by` where that is less; gives the most that was taken off at one place.
+fn lower_row(bounds: &mut [u8], to: usize, by: usize) -> u8
+    requires { ⌜ (length (now bounds) ≡ 65536) × (to < 256) × (by < 256) ⌝ }
+    ensures { λ r. ⌜ Lowered (now (bounds .entry)) (now (bounds .exit)) to by 256 r ⌝ }
+{
+    let mut off: u8 = 0;
+    let mut b: usize = 0;
+    while b < 256 {
+        let x = bounds[256 * to + b];
+        let z = lesser(x, bounds[256 * by + b]);
+        bounds[256 * to + b] = z;
+        off = larger(off, x - z);
+        b += 1;
+    }
+    off
+}
+
+// Lowers the rows of the ends of link `i`, each to one more than the other.
+fn lower_link(file: &[u8], n: usize, m: usize, i: usize, bounds: &mut [u8]) -> u8
+    requires { ⌜ Formed (now file) n m × (i < m) × Above (file-wiring (now file)) (now bounds) ⌝ }
+    ensures { λ r. ⌜ Passed (file-wiring (now (file .entry))) (now (bounds .entry)) (now (bounds .exit)) i (i + 1) r ⌝ }
+{
+    let p = first_end(file, 4, m, i);
+    let q = second_end(file, 4, m, i);
+    let a = lower_row(bounds, p, q);
+    let b = lower_row(bounds, q, p);
+    larger(a, b)
+}
+
+// Lowers by every link once, in rising order.
+fn lower_pass(file: &[u8], n: usize, m: usize, bounds: &mut [u8]) -> u8
+    requires { ⌜ Formed (now file) n m × Above (file-wiring (now file)) (now bounds) ⌝ }
+    ensures { λ r. ⌜ Passed (file-wiring (now (file .entry))) (now (bounds .entry)) (now (bounds .exit)) 0 m r ⌝ }
+{
+    let mut off: u8 = 0;
+    let mut i: usize = 0;
+    while i < m {
+        let a = lower_link(file, n, m, i, bounds);
+        off = larger(off, a);
+        i += 1;
+    }
+    off
+}
+
+// Lowers by link `i` if there is one.
+fn lower_one(file: &[u8], n: usize, m: usize, i: usize, bounds: &mut [u8])
+    requires { ⌜ Formed (now file) n m × Above (file-wiring (now file)) (now bounds) ⌝ }
+    ensures { λ _. ⌜ Swept (file-wiring (now (file .entry))) (now (bounds .entry)) (now (bounds .exit)) ⌝ }
+{
+    if i < m {
+        lower_link(file, n, m, i, bounds);
+    }
+}
+
+// Lowers by the links in an order, backwards.
+fn sweep_back(file: &[u8], n: usize, m: usize, order: &[u16; 2048], bounds: &mut [u8])
+    requires { ⌜ Formed (now file) n m × Above (file-wiring (now file)) (now bounds) ⌝ }
+    ensures { λ _. ⌜ Swept (file-wiring (now (file .entry))) (now (bounds .entry)) (now (bounds .exit)) ⌝ }
+{
+    let mut j: usize = m;
+    while 0 < j {
+        j -= 1;
+        lower_one(file, n, m, wide(order[j]), bounds);
+    }
+}
+
+// Lowers by the links in an order.
+fn sweep_on(file: &[u8], n: usize, m: usize, order: &[u16; 2048], bounds: &mut [u8])
+    requires { ⌜ Formed (now file) n m × Above (file-wiring (now file)) (now bounds) ⌝ }
+    ensures { λ _. ⌜ Swept (file-wiring (now (file .entry))) (now (bounds .entry)) (now (bounds .exit)) ⌝ }
+{
+    let mut j: usize = 0;
+    while j < m {
+        lower_one(file, n, m, wide(order[j]), bounds);
+        j += 1;
+    }
+}
+
+// Lowers until no link lowers any bound. The order only saves passes: the last pass, over every link, decides.
+fn settle(file: &[u8], n: usize, m: usize, order: &[u16; 2048], bounds: &mut [u8])
+    requires { ⌜ Formed (now file) n m × Above (file-wiring (now file)) (now bounds) ⌝ }
+    ensures { λ _. ⌜ Hops-in (file-wiring (now (file .entry))) (now (bounds .exit)) ⌝ }
+{
+    let mut off: u8 = 1;
+    while 0 < off {
+        sweep_back(file, n, m, order, bounds);
+        sweep_on(file, n, m, order, bounds);
+        off = lower_pass(file, n, m, bounds);
+    }
+}
+
+// What is known of the hops from card `a` to card `b` of `n` before any link was looked at: fewer than n.
+fn first_bound(n: usize, a: usize, b: usize) -> u8
+    requires { ⌜ n ≤ 256 ⌝ }
+    ensures { λ r. ⌜ r ≡ first-bound n a b ⌝ }
+{
+    if n <= a {
+        return 0;
+    }
+    if n <= b {
+        return 0;
+    }
+    if a == b {
+        return 0;
+    }
+    (n - 1) as u8
+}
+
+// Fills the table with those bounds.
+fn start_bounds(n: usize, bounds: &mut [u8])
+    requires { ⌜ (n ≤ 256) × (length (now bounds) ≡ 65536) ⌝ }
+    ensures { λ _. ⌜ Started n (now (bounds .exit)) 65536 ⌝ }
+{
+    let mut i: usize = 0;
+    while i < 65536 {
+        bounds[i] = first_bound(n, i / 256, i % 256);
+        i += 1;
+    }
+}
+
+// The hops between all cards of a connected rack.
+pub fn all_hops(file: &[u8], n: usize, m: usize, order: &[u16; 2048], hops: &mut [u8])
+    requires { ⌜ Formed (now file) n m × (connected (file-wiring (now file)) ≡ true) × (length (now hops) ≡ 65536) ⌝ }
+    ensures { λ _. ⌜ Hops-in (file-wiring (now (file .entry))) (now (hops .exit)) ⌝ }
+{
+    start_bounds(n, hops);
+    settle(file, n, m, order, hops);
+}
+
+// The lowest link whose ends have equal hops from card 0, with 10.
+pub fn parity_fault(file: &[u8], n: usize, m: usize, hops: &[u8]) -> Fault
+    requires { ⌜ Formed (now file) n m × Hops-in (file-wiring (now file)) (now hops) ⌝ }
+    ensures { λ r. ⌜ Fault-is r (parity-refusal (file-wiring (now (file .entry)))) ⌝ }
+{
+    let mut i: usize = 0;
+    while i < m {
+        let p = first_end(file, 4, m, i);
+        let q = second_end(file, 4, m, i);
+        if hops[p] == hops[q] {
+            return Fault {
+                number: 10,
+                at: i as u32,
+            };
+        }
+        i += 1;
+    }
+    Fault { number: 0, at: 0 }
+}
