@@ -3,9 +3,10 @@ use mathlib.Core.Path.{_≡_, refl, sym, ap, ap₂, _∙_}
 use mathlib.Core.Bool.{Bool, true, false, _&&_, cond, and-comm, and-true, and-false}
 use mathlib.Core.Logic.{inl, inr, _≢_}
 use mathlib.Core.List.{List}
-use Prim.Native.Nat.{ℕ, _<_}
+use Prim.Native.Nat.{ℕ, _≤_, _<_}
 use native.Mathlib.Omega.{arith}
 use lib.Dec.{ltb, eqb}
+use borrow.Author.Tests.{le-ltb}
 use Rattle.rack.specs.Lists.{lowest}
 use Rattle.rack.specs.Wiring.{Link, link-count, link-at, touches, other-end}
 use Rattle.rack.proofs.Logic.{by-bool, by-eq, by-lt}
@@ -55,14 +56,21 @@ step-local ps qs a b en em ek touch other bits far = by-eq a b here there
     same-hamming : plan-hamming ps a b ≡ plan-hamming qs a b
     same-hamming = plan-hamming-ext ps qs a a b ek (λ j l. bits j l .0) (λ j l. bits j l .1)
 
-    far-hamming : (i : ℕ) → Link-of ps a i → plan-hamming ps (other-end a (link-at (plan-wiring ps) i)) b ≡ plan-hamming qs (other-end a (link-at (plan-wiring qs) i)) b
-    far-hamming i h =
+    far-hamming : (i : ℕ) → Link-of ps a i → other-end a (link-at (plan-wiring ps) i) < plan-cards ps
+        → plan-hamming ps (other-end a (link-at (plan-wiring ps) i)) b ≡ plan-hamming qs (other-end a (link-at (plan-wiring qs) i)) b
+    far-hamming i h below =
         plan-hamming-ext ps qs (other-end a (link-at (plan-wiring ps) i)) (other-end a (link-at (plan-wiring qs) i)) b ek
-        (λ j l. far i j h l ∙ ap (λ (c : ℕ). plan-bit qs c j) (other i h)) (λ j l. bits j l .1)
+        (λ j l. far i j h l below ∙ ap (λ (c : ℕ). plan-bit qs c j) (other i h)) (λ j l. bits j l .1)
+
+    no-card : (rs : List ℕ) (c : ℕ) → plan-cards rs ≤ c → other-test rs a b c ≡ false
+    no-card rs c above = rw (le-ltb c (plan-cards rs) above, and-false (ltb a (plan-cards rs))) refl
 
     same-other : (i : ℕ) → Link-of ps a i → other-test ps a b (other-end a (link-at (plan-wiring ps) i)) ≡ other-test qs a b (other-end a (link-at (plan-wiring qs) i))
     same-other i h =
-        ap₂ _&&_ (ap₂ _&&_ (ap (ltb a) en) (ap₂ ltb (other i h) en)) (ap₂ ltb (far-hamming i h) same-hamming)
+        by-lt (other-end a (link-at (plan-wiring ps) i)) (plan-cards ps)
+        (λ below. ap₂ _&&_ (ap₂ _&&_ (ap (ltb a) en) (ap₂ ltb (other i h) en)) (ap₂ ltb (far-hamming i h below) same-hamming))
+        (λ above. no-card ps (other-end a (link-at (plan-wiring ps) i)) above
+        ∙ sym (no-card qs (other-end a (link-at (plan-wiring qs) i)) (omega (arith, other i h, en))))
 
     same-test : (i : ℕ) → i < link-count (plan-wiring ps) → leads-nearer ps a b (link-at (plan-wiring ps) i) ≡ leads-nearer qs a b (link-at (plan-wiring qs) i)
     same-test i h =

@@ -36,7 +36,7 @@ If-alike ps qs a b claim =
     ((i : ℕ) → Link-of ps a i → other-end a (link-at (plan-wiring ps) i) ≡ other-end a (link-at (plan-wiring qs) i)) →
     ((j : ℕ) → j < plan-columns ps → (plan-bit ps a j ≡ plan-bit qs a j) × (plan-bit ps b j ≡ plan-bit qs b j)) →
     ((i j : ℕ) → Link-of ps a i → j < plan-columns ps →
-    let c = other-end a (link-at (plan-wiring ps) i) in plan-bit ps c j ≡ plan-bit qs c j) →
+    let c = other-end a (link-at (plan-wiring ps) i) in c < plan-cards ps → plan-bit ps c j ≡ plan-bit qs c j) →
     claim
 
 -- "The step depends on a and b, a's links, the far addresses, a's own address and b's, and on nothing else beyond the three sizes"
