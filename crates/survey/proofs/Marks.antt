@@ -16,7 +16,7 @@ use Rattle.rack.specs.Refusals.{most-parallel, refusal, link-fault, links-refus
 use Rattle.rack.proofs.Logic.{true-not-false, not-true-false, by-bool, by-eq, by-lt, or-right}
 use Rattle.rack.proofs.Lists.{count-snoc, count-ext}
 use Rattle.rack.proofs.Paths.{joins-ends, ends-join}
-use Rattle.rack.proofs.Refusals.{lowest-fault-none, lowest-fault-is}
+use Rattle.rack.proofs.Refusals.{lowest-fault-none, lowest-fault-is, clear-link-fault}
 use Rattle.survey.specs.Tables.{cell}
 use Rattle.survey.specs.Marks.{Marked}
 use Rattle.survey.proofs.Zeros.{zeros-long, zeros-at}
@@ -106,8 +106,7 @@ module _ (w : Wiring) (i p q : ℕ) (ep : p ≡ link-at w i .first) (eq : q ≡ 
         rw (← ep, ← eq, lt-leb (w .cards) p hp, lt-leb (w .cards) q hq, ne-eqb p q n, le-leb most-parallel (count (joins p q) (take i (w .links))) h) refl
 
     pub fault-none : p ≢ q → count (joins p q) (take i (w .links)) < most-parallel → link-fault w i ≡ 0
-    unfolding link-fault
-    fault-none n h = rw (← ep, ← eq, lt-leb (w .cards) p hp, lt-leb (w .cards) q hq, ne-eqb p q n, lt-leb most-parallel (count (joins p q) (take i (w .links))) h) refl
+    fault-none n h = clear-link-fault w i (rw ep at hp, rw eq at hq, λ e. n (ep ∙ e ∙ sym eq)) (rw (ep, eq) at h)
 
 -- THE LOWEST LINK in fault
 abbrev pub Clear-before : Wiring → (i : ℕ) → Type 0

@@ -1,4 +1,4 @@
--- What the planner's stages know of a file that passed the stage before. Assumes nothing: these are definitions.
+-- What a stage knows of a file that passed the stage before. Assumes nothing: these are definitions.
 use mathlib.Core.Path.{_≡_}
 use mathlib.Core.Logic.{_≢_}
 use mathlib.Core.List.{List}
