@@ -20,7 +20,8 @@ use Rattle.planner.specs.Planning.{lent-words, lent-hops}
 use Rattle.survey.specs.declared.links.Fault.{Fault}
 use Rattle.planner.specs.declared.Answer.{Answer}
 use Rattle.survey.proofs.Forms.{sizes-are, formed}
-use Rattle.planner.proofs.Answers.{refusal-of-sizes, refusal-of-links, refusal-of-rack, refusal-of-reach, refusal-of-parity, refusal-of-none, refusal-of-embedding, planned-refused, planned-found}
+use Rattle.planner.proofs.Answers.{refusal-of-sizes, refusal-of-links, refusal-of-rack, refusal-of-reach, refusal-of-parity}
+use Rattle.planner.proofs.Answers.{refusal-of-none, refusal-of-embedding, planned-refused, planned-found}
 
 -- A RACK: 9, 10, 11, or its plan
 pub fault-refusal : (g : Fault) (f : Refusal) → Fault-is g f → f ≡ refusal (g .number) (g .at)

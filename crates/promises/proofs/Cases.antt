@@ -15,7 +15,12 @@ use Rattle.forwarder.specs.Forwarding.{leads-nearer, step, walk-from, walk}
 use Rattle.promises.specs.Cases.{Case, address-row, claim-holds, case-holds, case, ring-of-four, cases}
 
 all-hold : all case-holds cases ≡ true
-unfolding cases case ring-of-four case-holds claim-holds address-row number-bit joins linked neighbours touches other-end has-path hops unreached connected nearer-first side column same-column add-column add-columns columns column-count address hamming embeds or-else lowest-fault link-fault links-refusal reach-refusal parity-refusal embedding-refusal rack-refusal wiring-refusal number-at wiring-at sizes-fault form-refusal file-refusal two-bytes end-bytes file-bytes bits-value address-size address-bytes plan-bytes layout-holds content-holds plan-refusal plan-bit plan-hamming leads-nearer step walk-from walk
+unfolding cases case ring-of-four case-holds claim-holds address-row number-bit joins linked neighbours touches
+    other-end has-path hops unreached connected nearer-first side column same-column add-column add-columns columns
+    column-count address hamming embeds or-else lowest-fault link-fault links-refusal reach-refusal parity-refusal
+    embedding-refusal rack-refusal wiring-refusal number-at wiring-at sizes-fault form-refusal file-refusal two-bytes
+    end-bytes file-bytes bits-value address-size address-bytes plan-bytes layout-holds content-holds plan-refusal plan-bit
+    plan-hamming leads-nearer step walk-from walk
 all-hold = refl
 
 pub each-holds : (k : Case) → In k cases → case-holds k ≡ true

@@ -1,5 +1,6 @@
 -- All promises, each proved: what a reader looks for first. Assumes nothing.
-use Rattle.rack.specs.Promises.{Hops-fewest, Connected-paths, No-ties, Card-zero-zeros, Addresses-embed, No-addresses, Embedding-unique, Columns-once, Few-columns, Sizes-in-range, Links-join, Odd-loop, File-as-wiring}
+use Rattle.rack.specs.Promises.{Hops-fewest, Connected-paths, No-ties, Card-zero-zeros, Addresses-embed, No-addresses}
+use Rattle.rack.specs.Promises.{Embedding-unique, Columns-once, Few-columns, Sizes-in-range, Links-join, Odd-loop, File-as-wiring}
 use Rattle.rack.proofs.Promises as rack
 use Rattle.reader.specs.Promises.{Read-exactly, Calls-agree, Layout-in-range, Address-fits, Reader-promise}
 use Rattle.reader.proofs.Promises as reader

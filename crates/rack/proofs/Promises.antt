@@ -13,14 +13,16 @@ use Rattle.rack.specs.Columns.{same-column, columns, column-count, addre
 use Rattle.rack.specs.Refusals.{refusal, link-fault, links-refusal, well-formed, rack-refusal}
 use Rattle.rack.specs.WiringFile.{file-wiring, sizes-fault, form-refusal, file-refusal}
 use Rattle.rack.specs.Embeddings.{times}
-use Rattle.rack.specs.Promises.{Hops-fewest, Connected-paths, No-ties, Card-zero-zeros, Addresses-embed, No-addresses, Embedding-unique, Columns-once, Few-columns, Sizes-in-range, Links-join, Odd-loop, File-as-wiring}
+use Rattle.rack.specs.Promises.{Hops-fewest, Connected-paths, No-ties, Card-zero-zeros, Addresses-embed, No-addresses}
+use Rattle.rack.specs.Promises.{Embedding-unique, Columns-once, Few-columns, Sizes-in-range, Links-join, Odd-loop, File-as-wiring}
 use Rattle.rack.proofs.Logic.{not-true-false, and-both}
 use Rattle.rack.proofs.Lists.{count-at-most-one}
 use Rattle.rack.proofs.Paths.{path-cards, cards-path}
 use Rattle.rack.proofs.Hops.{hops-le, hops-path, path-hops, path-below, connected-all, zero-connected}
 use Rattle.rack.proofs.Columns.{same-column-eq, columns-distinct, address-zero}
 use Rattle.rack.proofs.Uniqueness.{reduced-count, reduced-length}
-use Rattle.rack.proofs.Refusals.{or-else-clear, or-else-second, lowest-fault-none, lowest-fault-clear, link-fault-clear, link-fault-few, clear-link-fault, well-formed-rack}
+use Rattle.rack.proofs.Refusals.{or-else-clear, or-else-second, lowest-fault-none, lowest-fault-clear}
+use Rattle.rack.proofs.Refusals.{link-fault-clear, link-fault-few, clear-link-fault, well-formed-rack}
 use Rattle.rack.proofs.Acceptance.{accepted-embedding, embedding-accepted, connected-number, ten-level, level-ten}
 use Rattle.rack.proofs.FewColumns
 use Rattle.rack.proofs.Parity.{no-tie}

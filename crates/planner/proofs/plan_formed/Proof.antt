@@ -82,7 +82,8 @@ returns-3 c =
 cast-t25 : tie.Need-cast-t25
 cast-t25 c =
     let at-address-cards = c .before .before .before in
-    let at-pre = at-address-cards .before .before .before .before .before .before .before .before .before .before .before .before .before .before .before .before .before .before .before .before .before .before .before in
+    let at-all-hops = at-address-cards .before .before .before .before .before .before .before .before .before in
+    let at-pre = at-all-hops .before .before .before .before .before .before .before .before .before .before .before .before .before .before in
     omega (arith, at-address-cards .address-cards .ensures .most, at-pre .pre .0 .sizes .few)
 
 same-length-5 : tie.Need-same-length-5

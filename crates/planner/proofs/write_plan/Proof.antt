@@ -72,7 +72,8 @@ put-plan-requires c κs =
     let at-plan-file = at-clear-bytes .before .before .before .before in
     let at-if1 = at-plan-file .before .before .before in
     let at-args = at-if1 .before .before .before in (
-      written-sizes _ _ _ _ (at-args .args .output .now) (at-if1 .if1 .left) (at-plan-file .plan-file .ensures) (at-if2 .if2 .left) _ _ (at-number-at .number-at .ensures .0) (at-number-at2 .number-at2 .ensures .0),
+      written-sizes _ _ _ _ (at-args .args .output .now) (at-if1 .if1 .left) (at-plan-file .plan-file .ensures) (at-if2 .if2 .left) _ _
+          (at-number-at .number-at .ensures .0) (at-number-at2 .number-at2 .ensures .0),
       columns-few _ _ _ _ (at-args .args .output .now) (at-if1 .if1 .left) (at-plan-file .plan-file .ensures) (at-if2 .if2 .left),
       at-plan-file .plan-file .ensures .long-words,
       at-clear-bytes .clear-bytes .ensures ∙ ap (λ (k : ℕ). replicate k 0) (at-if1 .if1 .left),

@@ -25,7 +25,10 @@ cast-sum : tie.Need-cast-sum Inv-loop μ-loop
 cast-sum c = omega (arith, c .before .before .before .pre .ones (c .before .before .loop .rest % 256) (omega arith), ones-le 8 (c .before .before .loop .rest % 256))
 
 add-sum : tie.Need-add-sum Inv-loop μ-loop
-add-sum c = omega (arith, c .before .before .before .pre .ones (c .before .before .loop .rest % 256) (omega arith), ones-le 8 (c .before .before .loop .rest % 256), ones-le (8 * c .before .before .loop .i) (c .before .before .before .args .z))
+add-sum c =
+    let l = c .before .before in
+    let low = l .loop .rest % 256 in
+    omega (arith, l .before .pre .ones low (omega arith), ones-le 8 low, ones-le (8 * l .loop .i) (l .before .args .z))
 
 add-i : tie.Need-add-i Inv-loop μ-loop
 add-i c = omega arith

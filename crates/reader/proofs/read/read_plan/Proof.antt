@@ -10,13 +10,21 @@ plan-layout-requires : tie.Need-plan-layout-requires
 plan-layout-requires c κs = search needs
 
 returns : tie.Need-returns
-returns c = let says = read-says-layout (c .before .before .before .before .args .plan .now) (c .before .before .plan-layout .result) (c .before .before .plan-layout .ensures) (c .if1 .taken) in (says, read-promise _ _ says)
+returns c =
+    let l = c .before .before in
+    let says = read-says-layout (l .before .before .args .plan .now) (l .plan-layout .result) (l .plan-layout .ensures) (c .if1 .taken) in
+    (says, read-promise _ _ says)
 
 cast-content-holds : tie.Need-cast-content-holds
 cast-content-holds c = search needs
 
 content-holds-requires : tie.Need-content-holds-requires
-content-holds-requires c κs = (layout-passed _ (c .before .before .before .plan-layout .result) (c .before .before .before .plan-layout .ensures) (c .before .if1 .left), says-laid-out _ (c .before .before .before .plan-layout .result) (c .before .before .before .plan-layout .ensures) (c .before .if1 .left) .links)
+content-holds-requires c κs =
+    let l = c .before .before .before in
+    let passed = c .before .if1 .left in (
+      layout-passed _ (l .plan-layout .result) (l .plan-layout .ensures) passed,
+      says-laid-out _ (l .plan-layout .result) (l .plan-layout .ensures) passed .links,
+    )
 
 returns-2 : tie.Need-returns-2
 returns-2 c =
