@@ -1,22 +1,24 @@
 -- The search for the first link that leads nearer: the far card of a link, and the test by it. Assumes nothing.
-use mathlib.Core.Path.{_≡_, refl, _∙_}
+use mathlib.Core.Path.{_≡_, refl, sym, _∙_}
 use mathlib.Core.Bool.{Bool, true, false, _&&_, and-false}
 use mathlib.Core.Logic.{_≢_}
 use mathlib.Core.List.{List}
 use Prim.Native.Nat.{ℕ, _+_, _≤_, _<_}
 use native.Mathlib.Omega.{arith}
 use lib.Dec.{ltb}
+use lib.ListN.{getD, set, replicate, getD-replicate}
+use lib.Seq.{getD-set-other}
 use borrow.Author.Count.{below-more}
 use borrow.Author.Tests.{eq-eqb, ne-eqb, ltb-true, lt-ltb, le-ltb}
 use Rattle.rack.specs.Wiring.{Link, link-at, touches, other-end}
-use Rattle.rack.proofs.Logic.{by-bool, and-left, and-right}
+use Rattle.rack.proofs.Logic.{true-not-false, by-bool, by-eq, and-left, and-right}
 use Rattle.rack.proofs.WiringFile.{wiring-at-count}
 use Rattle.reader.specs.Plan.{plan-cards, plan-wiring, plan-hamming}
 use Rattle.reader.specs.Reading.{Laid-out}
 use Rattle.forwarder.specs.Forwarding.{leads-nearer, step}
 use Rattle.forwarder.specs.Promises.{Step-first}
 use Rattle.forwarder.specs.Calls.{Step-is}
-use Rattle.forwarder.specs.Parts.{far-card, No-link}
+use Rattle.forwarder.specs.Parts.{far-card, No-link, No-nearer}
 use Rattle.forwarder.specs.declared.step.Stepped.{Stepped}
 use Rattle.forwarder.proofs.Stepping.{other-end-below, step-here, step-first}
 
@@ -69,6 +71,18 @@ module _ (ps : List ℕ) (a b : ℕ) (l : Link) where
           let first = ltb-true (l .first) n (and-left (ltb (l .first) n) (ltb (l .second) n) h) in
           let second = ltb-true (l .second) n (and-right (ltb (l .first) n) (ltb (l .second) n) h) in
           rw (t, lt-ltb (other-end a l) n (other-end-below n a l first second)) refl
+
+-- THE MARKS of cards that are no nearer: none at the start, and one more
+module _ (ps : List ℕ) (b left : ℕ) where
+  pub no-marks : No-nearer ps b left (replicate 256 false)
+  no-marks = record { far = λ c h t. true-not-false (getD (replicate 256 false) c false) t (getD-replicate 256 c false false h) }
+
+  pub one-mark-more : (marks : List Bool) (x : ℕ) → No-nearer ps b left marks → ltb (plan-hamming ps x b) left ≡ false → No-nearer ps b left (set marks x true)
+  one-mark-more marks x z e =
+      record {
+        far = λ c h t. by-eq c x (λ (f : c ≡ x). rw f e)
+            (λ (d : c ≢ x). z .far c h (sym (getD-set-other marks x c true false d) ∙ t));
+      }
 
 -- THE LOOP over the links: none of those passed leads nearer
 abbrev pub None-before : List ℕ → (a b i : ℕ) → Type 0

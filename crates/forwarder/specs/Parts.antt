@@ -1,11 +1,12 @@
 -- What the parts of a step and of a walk answer. Assumes nothing: these are definitions.
 use mathlib.Core.Path.{_≡_}
-use mathlib.Core.Bool.{Bool, _&&_, _||_, cond}
+use mathlib.Core.Bool.{Bool, true, false, _&&_, _||_, cond}
 use mathlib.Core.List.{List, _++_}
 use Prim.Native.Nat.{ℕ, suc, _+_, _*_, _-_, _≤_, _<_}
 use lib.Dec.{ltb, leb, eqb}
-use lib.ListN.{length, replicate}
+use lib.ListN.{length, getD, replicate}
 use Rattle.rack.specs.Wiring.{Link, touches, other-end}
+use Rattle.reader.specs.Plan.{plan-hamming}
 use Rattle.reader.specs.Reading.{Laid-out}
 use Rattle.reader.specs.declared.layout.Sizes.{Sizes}
 use Rattle.forwarder.specs.Forwarding.{Walk}
@@ -18,6 +19,10 @@ use Rattle.forwarder.specs.declared.walk.Route.{Route}
 -- the other end of a link where it is one of card a's, between two of the n cards; else n
 unfoldable pub far-card : (n a : ℕ) → Link → ℕ
 far-card n a l = cond (ltb (l .first) n && ltb (l .second) n && touches a l) (other-end a l) n
+
+-- the cards marked differ from card b in no fewer places than `left`
+pub record No-nearer (ps : List ℕ) (b left : ℕ) (marks : List Bool) : Type 0 where
+  pub far : (c : ℕ) → c < 256 → getD marks c false ≡ true → ltb (plan-hamming ps c b) left ≡ false
 
 -- a step's answer that is not over a link
 pub record No-link (x o : ℕ) (r : Stepped) : Type 0 where

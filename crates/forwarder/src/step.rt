@@ -9,7 +9,7 @@ ghost use Rattle.reader.specs.Plan.{plan-hamming, plan-wiring};
 ghost use Rattle.reader.specs.Reading.{Laid-out};
 ghost use Rattle.forwarder.specs.Forwarding.{step};
 ghost use Rattle.forwarder.specs.Calls.{Step-is, Step-says};
-ghost use Rattle.forwarder.specs.Parts.{far-card, Frame-sizes, No-link};
+ghost use Rattle.forwarder.specs.Parts.{far-card, Frame-sizes, No-link, No-nearer};
 use rack::bytes::first_end;
 use rack::bytes::second_end;
 use rack::ones::ones_table;
@@ -47,7 +47,8 @@ fn far_card(plan: &[u8], n: usize, m: usize, k: usize, i: usize, a: usize) -> us
     n
 }
 
-// `c` is a card whose address differs from that of card `b` in fewer than `left` places.
+// `c` is a card whose address differs from that of card `b` in fewer than `left` places. A card that does not is marked, so
+// that its places are counted once.
 fn is_nearer(
     ones: &[u8; 256],
     plan: &[u8],
@@ -57,14 +58,23 @@ fn is_nearer(
     c: usize,
     b: usize,
     left: u32,
+    far: &mut [bool; 256],
 ) -> bool
-    requires { ⌜ Counts (now ones) × Laid-out (now plan) n m k × (b < n) ⌝ }
-    ensures { λ r. ⌜ r ≡ (ltb c n && ltb (plan-hamming (now (plan .entry)) c b) left) ⌝ }
+    requires { ⌜ Counts (now ones) × Laid-out (now plan) n m k × (b < n) × No-nearer (now plan) b left (now far) ⌝ }
+    ensures is { λ r. ⌜ r ≡ (ltb c n && ltb (plan-hamming (now (plan .entry)) c b) left) ⌝ }
+    ensures marks { λ r. ⌜ No-nearer (now (plan .entry)) b left (now (far .exit)) ⌝ }
 {
     if n <= c {
         return false;
     }
-    plan_hamming(ones, plan, n, m, k, c, b) < left
+    if far[c] {
+        return false;
+    }
+    if plan_hamming(ones, plan, n, m, k, c, b) < left {
+        return true;
+    }
+    far[c] = true;
+    false
 }
 
 // An answer that is not over a link.
@@ -96,10 +106,11 @@ pub fn step_between(
         return no_link(0, 1);
     }
     let left = plan_hamming(ones, plan, n, m, k, a, b);
+    let mut far = [false; 256];
     let mut i: usize = 0;
     while i < m {
         let c = far_card(plan, n, m, k, i, a);
-        if is_nearer(ones, plan, n, m, k, c, b, left) {
+        if is_nearer(ones, plan, n, m, k, c, b, left, &mut far) {
             return Stepped {
                 number: 0,
                 outcome: 2,

@@ -1,19 +1,45 @@
--- A number past the cards fails the test, and a card is tested by its differing places. Assumes nothing.
+-- A number past the cards and a card marked fail the test; another card is tested by its differing places. Assumes nothing.
 use native.Mathlib.Omega.{arith}
 use mathlib.Core.Path.{refl}
 use borrow.Author.Tests.{lt-ltb, le-ltb}
 use borrow.Author.Needs.{needs}
+use Rattle.reader.specs.Plan.{plan-hamming}
+use Rattle.forwarder.proofs.Searching.{one-mark-more}
 use Rattle.forwarder.proofs.step.is_nearer.Statement.{statement}
 use Rattle.forwarder.proofs.step.is_nearer.Tie as tie
 
 returns : tie.Need-returns
-returns c = let s = c .before .before .args in rw (le-ltb (s .c) (s .n) (omega arith)) refl
+returns c = let s = c .before .before in (rw (le-ltb (s .args .c) (s .args .n) (omega arith)) refl, s .pre .3)
+
+element-copy-out-if2 : tie.Need-element-copy-out-if2
+element-copy-out-if2 c = omega (arith, c .before .before .pre .1 .few)
+
+returns-2 : tie.Need-returns-2
+returns-2 c =
+    let s = c .before .before .before .before in
+    let z = s .args in
+    (rw (lt-ltb (z .c) (z .n) (omega arith), s .pre .3 .far (z .c) (omega (arith, s .pre .1 .few)) (c .if2 .taken)) refl, s .pre .3)
 
 plan-hamming-requires : tie.Need-plan-hamming-requires
 plan-hamming-requires c κs = search needs
 
-returns-2 : tie.Need-returns-2
-returns-2 c = let s = c .before .before .before .args in rw (lt-ltb (s .c) (s .n) (omega arith), c .plan-hamming .ensures .0) refl
+returns-3 : tie.Need-returns-3
+returns-3 c =
+    let s = c .before .before .before .before .before .before in
+    let z = s .args in
+    let e = c .before .plan-hamming .ensures .0 in
+    (rw (lt-ltb (z .c) (z .n) (omega arith), lt-ltb (plan-hamming (z .plan .now) (z .c) (z .b)) (z .left) (omega (arith, e))) refl, s .pre .3)
+
+element-write-far : tie.Need-element-write-far
+element-write-far c = omega (arith, c .before .before .before .before .before .before .pre .1 .few)
+
+returns-4 : tie.Need-returns-4
+returns-4 c =
+    let s = c .before .before .before .before .before .before in
+    let z = s .args in
+    let e = c .before .plan-hamming .ensures .0 in
+    let far = le-ltb (plan-hamming (z .plan .now) (z .c) (z .b)) (z .left) (omega (arith, e)) in
+    (rw (lt-ltb (z .c) (z .n) (omega arith), far) refl, one-mark-more (z .plan .now) (z .b) (z .left) (z .far .now) (z .c) (s .pre .3) far)
 
 pub is-nearer-spec : {M : Type 1} → statement M
-is-nearer-spec = tie.close (tie.spec returns plan-hamming-requires returns-2)
+is-nearer-spec = tie.close (tie.spec returns element-copy-out-if2 returns-2 plan-hamming-requires returns-3 element-write-far returns-4)

@@ -3,15 +3,16 @@ use native.Mathlib.Omega.{arith}
 use borrow.Author.Needs.{needs}
 use mathlib.Core.Path.{sym, _∙_}
 use Prim.Native.Nat.{_-_, _≤_}
-use Rattle.forwarder.proofs.Searching.{None-before, tested-card, step-passed, step-found, step-none, step-arrived}
+use Rattle.forwarder.specs.Parts.{No-nearer}
+use Rattle.forwarder.proofs.Searching.{None-before, no-marks, tested-card, step-passed, step-found, step-none, step-arrived}
 use Rattle.forwarder.proofs.step.step_between.Statement.{statement}
 use Rattle.forwarder.proofs.step.step_between.Tie as tie
 
 abbrev Inv-loop : tie.InvT-loop
-Inv-loop ones plan n m k a b left i₀ i = (i ≤ m) × None-before plan a b i
+Inv-loop ones plan n m k a b left far₀ i₀ far i = (i ≤ m) × None-before plan a b i × No-nearer plan b left far
 
 abbrev μ-loop : tie.MeasureT-loop
-μ-loop ones plan n m k a b left i₀ i = m - i
+μ-loop ones plan n m k a b left far₀ i₀ far i = m - i
 
 no-link-requires : tie.Need-no-link-requires Inv-loop μ-loop
 no-link-requires c κs = search needs
@@ -23,39 +24,39 @@ plan-hamming-requires : tie.Need-plan-hamming-requires Inv-loop μ-loop
 plan-hamming-requires c κs = c .before .before .pre
 
 loop-holds : tie.Need-loop-holds Inv-loop μ-loop
-loop-holds c = (omega arith, λ j h. absurd (omega arith))
+loop-holds c = (omega arith, (λ j h. absurd (omega arith)), no-marks _ _ _)
 
 far-card-requires : tie.Need-far-card-requires Inv-loop μ-loop
 far-card-requires c κs = (c .before .before .before .before .before .pre .1, omega arith)
 
 is-nearer-requires : tie.Need-is-nearer-requires Inv-loop μ-loop
-is-nearer-requires c κs = let p = c .before .before .before .before .before .before .pre in (p .0, p .1, p .3)
+is-nearer-requires c κs = let p = c .before .before .before .before .before .before .before .pre in (p .0, p .1, p .3, c .before .before .before .loop .inv .2)
 
-cast-t14 : tie.Need-cast-t14 Inv-loop μ-loop
-cast-t14 c = omega (arith, c .before .before .before .before .before .before .before .before .pre .1 .few-links)
+cast-t16 : tie.Need-cast-t16 Inv-loop μ-loop
+cast-t16 c = omega (arith, c .before .before .before .before .before .before .before .before .before .pre .1 .few-links)
 
-cast-t15 : tie.Need-cast-t15 Inv-loop μ-loop
-cast-t15 c =
-    let at-plan-hamming = c .before .before .before .before .before in
+cast-t17 : tie.Need-cast-t17 Inv-loop μ-loop
+cast-t17 c =
+    let at-plan-hamming = c .before .before .before .before .before .before in
     let at-args = at-plan-hamming .before .before .before in
     let z = at-args .args in
     omega (
       arith,
       at-args .pre .1 .few,
       tested-card (z .plan .now) (z .n) (z .m) (z .k) (z .a) (z .b) (at-args .pre .1) _ _ _
-          (c .before .before .far-card .ensures) (at-plan-hamming .plan-hamming .ensures .0)
-          (sym (c .before .is-nearer .ensures) ∙ c .if2 .taken),
+          (c .before .before .before .far-card .ensures) (at-plan-hamming .plan-hamming .ensures .0)
+          (sym (c .before .is-nearer .ensures .0) ∙ c .if2 .taken),
     )
 
 returns-2 : tie.Need-returns-2 Inv-loop μ-loop
 returns-2 c =
-    let at-loop = c .before .before .before .before in
+    let at-loop = c .before .before .before .before .before in
     let at-plan-hamming = at-loop .before in
     let at-args = at-plan-hamming .before .before .before in
     let z = at-args .args in
     step-found (z .plan .now) (z .n) (z .m) (z .k) (z .a) (z .b) (at-args .pre .1) _ _ _
-    (c .before .before .far-card .ensures) (at-plan-hamming .plan-hamming .ensures .0)
-    (λ e. omega arith) (omega arith) (at-loop .loop .inv .1) (sym (c .before .is-nearer .ensures) ∙ c .if2 .taken)
+    (c .before .before .before .far-card .ensures) (at-plan-hamming .plan-hamming .ensures .0)
+    (λ e. omega arith) (omega arith) (at-loop .loop .inv .1) (sym (c .before .is-nearer .ensures .0) ∙ c .if2 .taken)
 
 add-i : tie.Need-add-i Inv-loop μ-loop
 add-i c = omega arith
@@ -65,14 +66,15 @@ loop-less c = omega arith
 
 loop-again : tie.Need-loop-again Inv-loop μ-loop
 loop-again c =
-    let at-loop = c .before .before .before .before in
+    let at-loop = c .before .before .before .before .before in
     let at-plan-hamming = at-loop .before in
     let at-args = at-plan-hamming .before .before .before in (
       omega arith,
       let z = at-args .args in
           step-passed (z .plan .now) (z .n) (z .m) (z .k) (z .a) (z .b) (at-args .pre .1) _ _ _
-          (c .before .before .far-card .ensures) (at-plan-hamming .plan-hamming .ensures .0)
-          (at-loop .loop .inv .1) (sym (c .before .is-nearer .ensures) ∙ c .if2 .left),
+          (c .before .before .before .far-card .ensures) (at-plan-hamming .plan-hamming .ensures .0)
+          (at-loop .loop .inv .1) (sym (c .before .is-nearer .ensures .0) ∙ c .if2 .left),
+      c .before .is-nearer .ensures .1,
     )
 
 no-link-requires-2 : tie.Need-no-link-requires-2 Inv-loop μ-loop
@@ -97,8 +99,8 @@ step-between-spec =
     loop-holds
     far-card-requires
     is-nearer-requires
-    cast-t14
-    cast-t15
+    cast-t16
+    cast-t17
     returns-2
     add-i
     loop-less
