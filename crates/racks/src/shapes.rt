@@ -1,32 +1,8 @@
-// Wirings by rules: the two ends of link `i` of a rack, and the wiring file of a whole rack.
-ghost use Prim.Native.Nat.{_<_, _≤_};
+// Wirings by rules: the two ends of link `i` of a rack, and the wiring file of a whole rack. A rule goes by the first letter of its name
+// in the cases.
+ghost use Prim.Native.Nat.{_<_};
 
-pub struct Ends {
-    pub first: usize,
-    pub second: usize,
-}
-
-// The rules. Cards are numbered as the rule says: a cube's by their bits, a grid's by its rows of 16.
-pub enum Shape {
-    Chain,
-    Ring,
-    Cube,
-    Grid,
-    Star,
-    TwoByThree,
-    SixteenByMany,
-    Chord,
-    Parts,
-    Tree,
-    Loose,
-}
-
-fn pair(first: usize, second: usize) -> Ends {
-    Ends {
-        first: first,
-        second: second,
-    }
-}
+struct Ends(usize, usize);
 
 // A number below 32,768 made from `x` by a linear congruential rule.
 fn scattered(x: usize) -> usize
@@ -44,14 +20,14 @@ fn rest(x: usize, by: usize) -> usize {
     x % by
 }
 
-// The cards in a row, and one more link behind the row from `a` to `b`.
-fn row_and(n: usize, i: usize, a: usize, b: usize) -> Ends
+// The cards in a row, and behind it one link more.
+fn extra_link(n: usize, i: usize) -> Ends
     requires { ⌜ i < 4096 ⌝ }
 {
     if i + 1 == n {
-        return pair(a, b);
+        return Ends(100, 180);
     }
-    pair(i, i + 1)
+    Ends(i, i + 1)
 }
 
 // Bit `i / 128` of 8, at the card that has the bits of `i % 128` beside it.
@@ -62,13 +38,13 @@ fn cube_link(i: usize) -> Ends
     let others = i % 128;
     let low = rest(others, weight);
     if 128 < weight {
-        return pair(0, 0);
+        return Ends(0, 0);
     }
     if others < low {
-        return pair(0, 0);
+        return Ends(0, 0);
     }
     let card = others + (others - low);
-    pair(card, card + weight)
+    Ends(card, card + weight)
 }
 
 // 16 rows of 16 cards: 240 links along the rows, then 240 across.
@@ -77,9 +53,9 @@ fn grid_link(i: usize) -> Ends
 {
     if i < 240 {
         let card = i + i / 15;
-        return pair(card, card + 1);
+        return Ends(card, card + 1);
     }
-    pair(i - 240, i - 224)
+    Ends(i - 240, i - 224)
 }
 
 // Two rows with no link between them.
@@ -87,43 +63,35 @@ fn parts_link(n: usize, i: usize) -> Ends
     requires { ⌜ i < 4096 ⌝ }
 {
     if i + 1 < n / 2 {
-        return pair(i, i + 1);
+        return Ends(i, i + 1);
     }
-    pair(i + 1, i + 2)
+    Ends(i + 1, i + 2)
 }
 
-// A tree: each card hangs on one with a lower number.
-fn tree_link(i: usize) -> Ends
-    requires { ⌜ i < 4096 ⌝ }
-{
-    pair(rest(scattered(i), i + 1), i + 1)
-}
-
-// The tree, and behind it links between any cards.
-fn loose_link(n: usize, i: usize) -> Ends
+// A tree, each card on one with a lower number, and behind it links between any cards.
+fn tree_link(n: usize, i: usize) -> Ends
     requires { ⌜ i < 4096 ⌝ }
 {
     if i + 1 < n {
-        return tree_link(i);
+        return Ends(rest(scattered(i), i + 1), i + 1);
     }
-    pair(rest(scattered(2 * i), n), rest(scattered(2 * i + 1), n))
+    Ends(rest(scattered(2 * i), n), rest(scattered(2 * i + 1), n))
 }
 
-fn link(shape: Shape, n: usize, i: usize) -> Ends
+// Link `i` by a rule. Cards are numbered as the rule says: a hypercube's by their bits, a grid's by its rows of 16.
+fn link(rule: u8, n: usize, i: usize) -> Ends
     requires { ⌜ i < 4096 ⌝ }
 {
-    match shape {
-        Shape::Chain => pair(i, i + 1),
-        Shape::Ring => row_and(n, i, i, 0),
-        Shape::Cube => cube_link(i),
-        Shape::Grid => grid_link(i),
-        Shape::Star => pair(0, i + 1),
-        Shape::TwoByThree => pair(i / 3, 2 + i % 3),
-        Shape::SixteenByMany => pair(i / 128, 16 + i % 128),
-        Shape::Chord => row_and(n, i, 100, 180),
-        Shape::Parts => parts_link(n, i),
-        Shape::Tree => tree_link(i),
-        Shape::Loose => loose_link(n, i),
+    match rule {
+        b'c' | b'r' => Ends(i, rest(i + 1, n)),
+        b'e' => extra_link(n, i),
+        b'h' => cube_link(i),
+        b'g' => grid_link(i),
+        b's' => Ends(0, i + 1),
+        b'2' => Ends(i / 3, 2 + i % 3),
+        b'1' => Ends(i / 128, 16 + i % 128),
+        b'p' => parts_link(n, i),
+        _ => tree_link(n, i),
     }
 }
 
@@ -135,31 +103,22 @@ fn mixed_card(n: usize, c: usize) -> usize {
     rest(77 * c + 13, n)
 }
 
-// Link `i` of `m` once cards and links are mixed: each link once where 101 and `m` have no common divisor, every other one turned round.
-fn mixed_link(shape: Shape, n: usize, m: usize, i: usize) -> Ends
+// Link `i` of `m`; where cards and links are mixed, each once if 101 and `m` have no common divisor, every other one turned round.
+fn drawn(rule: u8, n: usize, m: usize, i: usize, mixed: bool) -> Ends
     requires { ⌜ (i < m) × (m < 4096) ⌝ }
 {
+    if !mixed {
+        return link(rule, n, i);
+    }
     let place = rest(101 * i + 7, m);
     if m <= place {
-        return pair(0, 0);
+        return Ends(0, 0);
     }
-    let e = link(shape, n, place);
-    let a = mixed_card(n, e.first);
-    let b = mixed_card(n, e.second);
+    let e = link(rule, n, place);
     if i % 2 == 0 {
-        return pair(a, b);
+        return Ends(mixed_card(n, e.0), mixed_card(n, e.1));
     }
-    pair(b, a)
-}
-
-// Link `i` of `m`.
-fn drawn(shape: Shape, n: usize, m: usize, i: usize, mixed: bool) -> Ends
-    requires { ⌜ (i < m) × (m < 4096) ⌝ }
-{
-    if mixed {
-        return mixed_link(shape, n, m, i);
-    }
-    link(shape, n, i)
+    Ends(mixed_card(n, e.1), mixed_card(n, e.0))
 }
 
 // Puts a number of 16 bits at a place of a file, where there is room.
@@ -180,24 +139,24 @@ pub fn put_link(file: &mut [u8; 8200], m: usize, i: usize, first: usize, second:
 }
 
 // Puts all links.
-fn put_links(file: &mut [u8; 8200], shape: Shape, n: usize, m: usize, mixed: bool)
+fn put_links(file: &mut [u8; 8200], rule: u8, n: usize, m: usize, mixed: bool)
     requires { ⌜ m < 4096 ⌝ }
 {
     let mut i: usize = 0;
     while i < m {
-        let e = drawn(shape, n, m, i, mixed);
-        put_link(file, m, i, e.first, e.second);
+        let e = drawn(rule, n, m, i, mixed);
+        put_link(file, m, i, e.0, e.1);
         i += 1;
     }
 }
 
 // The wiring file of a rack, with zeros behind it.
-pub fn wiring(shape: Shape, n: usize, m: usize, mixed: bool) -> [u8; 8200]
+pub fn wiring(rule: u8, n: usize, m: usize, mixed: bool) -> [u8; 8200]
     requires { ⌜ m < 4096 ⌝ }
 {
     let mut file = [0u8; 8200];
     put_number(&mut file, 0, n);
     put_number(&mut file, 2, m);
-    put_links(&mut file, shape, n, m, mixed);
+    put_links(&mut file, rule, n, m, mixed);
     file
 }

@@ -14,11 +14,11 @@ abbrev μ-loop : tie.MeasureT-loop
 loop-holds : tie.Need-loop-holds Inv-loop μ-loop
 loop-holds c = search needs
 
-shared-slice-read-of-byte : tie.Need-shared-slice-read-of-byte Inv-loop μ-loop
-shared-slice-read-of-byte c = search needs
+shared-slice-read-wide-byte : tie.Need-shared-slice-read-wide-byte Inv-loop μ-loop
+shared-slice-read-wide-byte c = search needs
 
-of-byte-requires : tie.Need-of-byte-requires Inv-loop μ-loop
-of-byte-requires c κs = search needs
+wide-byte-requires : tie.Need-wide-byte-requires Inv-loop μ-loop
+wide-byte-requires c κs = search needs
 
 added-requires : tie.Need-added-requires Inv-loop μ-loop
 added-requires c κs = search needs
@@ -42,8 +42,8 @@ bytes-sum-spec =
     Inv-loop
     μ-loop
     loop-holds
-    shared-slice-read-of-byte
-    of-byte-requires
+    shared-slice-read-wide-byte
+    wide-byte-requires
     added-requires
     add-i
     loop-less

@@ -14,14 +14,14 @@ abbrev μ-loop : tie.MeasureT-loop
 loop-holds : tie.Need-loop-holds Inv-loop μ-loop
 loop-holds c = search needs
 
-mul-of-card : tie.Need-mul-of-card Inv-loop μ-loop
-mul-of-card c = search needs
+mul-wide-card : tie.Need-mul-wide-card Inv-loop μ-loop
+mul-wide-card c = search needs
 
-shared-slice-read-of-card : tie.Need-shared-slice-read-of-card Inv-loop μ-loop
-shared-slice-read-of-card c = search needs
+shared-slice-read-wide-card : tie.Need-shared-slice-read-wide-card Inv-loop μ-loop
+shared-slice-read-wide-card c = search needs
 
-of-card-requires : tie.Need-of-card-requires Inv-loop μ-loop
-of-card-requires c κs = search needs
+wide-card-requires : tie.Need-wide-card-requires Inv-loop μ-loop
+wide-card-requires c κs = search needs
 
 added-requires : tie.Need-added-requires Inv-loop μ-loop
 added-requires c κs = search needs
@@ -45,9 +45,9 @@ cards-sum-spec =
     Inv-loop
     μ-loop
     loop-holds
-    mul-of-card
-    shared-slice-read-of-card
-    of-card-requires
+    mul-wide-card
+    shared-slice-read-wide-card
+    wide-card-requires
     added-requires
     add-i
     loop-less

@@ -14,14 +14,11 @@ abbrev μ-loop : tie.MeasureT-loop
 loop-holds : tie.Need-loop-holds Inv-loop μ-loop
 loop-holds c = search needs
 
-mul-of-word : tie.Need-mul-of-word Inv-loop μ-loop
-mul-of-word c = search needs
+mul-added : tie.Need-mul-added Inv-loop μ-loop
+mul-added c = search needs
 
-shared-slice-read-of-word : tie.Need-shared-slice-read-of-word Inv-loop μ-loop
-shared-slice-read-of-word c = search needs
-
-of-word-requires : tie.Need-of-word-requires Inv-loop μ-loop
-of-word-requires c κs = search needs
+shared-slice-read-added : tie.Need-shared-slice-read-added Inv-loop μ-loop
+shared-slice-read-added c = search needs
 
 added-requires : tie.Need-added-requires Inv-loop μ-loop
 added-requires c κs = search needs
@@ -45,9 +42,8 @@ words-sum-spec =
     Inv-loop
     μ-loop
     loop-holds
-    mul-of-word
-    shared-slice-read-of-word
-    of-word-requires
+    mul-added
+    shared-slice-read-added
     added-requires
     add-i
     loop-less

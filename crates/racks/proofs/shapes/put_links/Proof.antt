@@ -5,10 +5,10 @@ use Rattle.racks.proofs.shapes.put_links.Statement.{statement}
 use Rattle.racks.proofs.shapes.put_links.Tie as tie
 
 abbrev Inv-loop : tie.InvT-loop
-Inv-loop file₀ shape n m mixed i₀ file i = i ≤ m
+Inv-loop file₀ rule n m mixed i₀ file i = i ≤ m
 
 abbrev μ-loop : tie.MeasureT-loop
-μ-loop file₀ shape n m mixed i₀ file i = m - i
+μ-loop file₀ rule n m mixed i₀ file i = m - i
 
 loop-holds : tie.Need-loop-holds Inv-loop μ-loop
 loop-holds c = search needs

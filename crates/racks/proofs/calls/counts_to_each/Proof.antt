@@ -1,8 +1,8 @@
--- `calls::walked_to_each` is safe and ends. Each turn walks to one card more. Assumes nothing.
+-- `calls::counts_to_each` is safe and ends. Each turn walks to one card more. Assumes nothing.
 use borrow.Author.Needs.{needs}
 use Prim.Native.Nat.{_≤_, _-_}
-use Rattle.racks.proofs.calls.walked_to_each.Statement.{statement}
-use Rattle.racks.proofs.calls.walked_to_each.Tie as tie
+use Rattle.racks.proofs.calls.counts_to_each.Statement.{statement}
+use Rattle.racks.proofs.calls.counts_to_each.Tie as tie
 
 abbrev Inv-loop : tie.InvT-loop
 Inv-loop plan n from traffic₀ goal₀ traffic goal = goal ≤ n
@@ -28,7 +28,7 @@ loop-again c = search needs
 returns : tie.Need-returns Inv-loop μ-loop
 returns c = search needs
 
-pub walked-to-each-spec : {M : Type 1} → statement M
-walked-to-each-spec =
+pub counts-to-each-spec : {M : Type 1} → statement M
+counts-to-each-spec =
     tie.close
     (tie.spec Inv-loop μ-loop loop-holds counted-requires add-goal loop-less loop-again returns)
