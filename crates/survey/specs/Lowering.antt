@@ -1,9 +1,9 @@
 -- Upper bounds of hops, lowered over the links until they are hops. Assumes nothing: these are definitions.
 use mathlib.Core.Path.{_≡_}
-use mathlib.Core.Bool.{_||_, cond}
+use mathlib.Core.Bool.{cond}
 use mathlib.Core.List.{List}
 use Prim.Native.Nat.{ℕ, _+_, _*_, _-_, _≤_, _<_, min}
-use lib.Dec.{leb, eqb}
+use lib.Dec.{ltb, leb, eqb}
 use lib.ListN.{length, getD}
 use Rattle.rack.specs.Wiring.{Wiring, link-at}
 use Rattle.rack.specs.Hops.{hops}
@@ -44,11 +44,25 @@ pub record Swept (w : Wiring) (old new : List ℕ) : Type 0 where
   pub above : Above w new
   pub less : total new ≤ total old
 
--- what is known of hops in a connected rack before any link was looked at: fewer than n, and none from a card to itself
-unfoldable pub first-bound : (n a b : ℕ) → ℕ
-first-bound n a b = cond (leb n a || leb n b || eqb a b) 0 (n - 1)
+-- what is known of hops from card a to another in a connected rack before any link was looked at: fewer than n
+unfoldable pub row-bound : (n a : ℕ) → ℕ
+row-bound n a = cond (leb n a) 0 (n - 1)
 
--- the first `upto` places of the buffer hold that
+-- a bound at the places of the n cards, and 0 elsewhere
+unfoldable pub place-bound : (n bound b : ℕ) → ℕ
+place-bound n v b = cond (ltb b n) v 0
+
+-- the first `upto` places of row a hold that, and the rows before are as they were
+pub record Row-filled (n bound : ℕ) (old new : List ℕ) (a upto : ℕ) : Type 0 where
+  pub long : length new ≡ length old
+  pub before : (i : ℕ) → i < 256 * a → getD new i 0 ≡ getD old i 0
+  pub is : (b : ℕ) → b < upto → cell new a b ≡ place-bound n bound b
+
+-- the first bounds: none from a card to itself
+unfoldable pub first-bound : (n a b : ℕ) → ℕ
+first-bound n a b = cond (eqb a b) 0 (place-bound n (row-bound n a) b)
+
+-- the rows below `upto` hold them
 pub record Started (n : ℕ) (h : List ℕ) (upto : ℕ) : Type 0 where
   pub long : length h ≡ 65536
-  pub is : (a b : ℕ) → b < 256 → 256 * a + b < upto → cell h a b ≡ first-bound n a b
+  pub is : (a b : ℕ) → b < 256 → a < upto → cell h a b ≡ first-bound n a b

@@ -8,7 +8,7 @@ ghost use Rattle.rack.specs.WiringFile.{file-wiring};
 ghost use Rattle.rack.specs.Refusals.{parity-refusal};
 ghost use Rattle.survey.specs.Formed.{Fault-is, Formed};
 ghost use Rattle.survey.specs.Tables.{Hops-in};
-ghost use Rattle.survey.specs.Lowering.{Above, Lowered, Passed, Started, Swept, first-bound};
+ghost use Rattle.survey.specs.Lowering.{Above, Lowered, Passed, Row-filled, Started, Swept, place-bound, row-bound};
 use crate::links::Fault;
 use crate::order::wide;
 use rack::bytes::first_end;
@@ -118,32 +118,57 @@ fn settle(file: &[u8], n: usize, m: usize, order: &[u16; 2048], bounds: &mut [u8
     }
 }
 
-// What is known of the hops from card `a` to card `b` of `n` before any link was looked at: fewer than n.
-fn first_bound(n: usize, a: usize, b: usize) -> u8
+// What is known of the hops from card `a` of `n` to another before any link was looked at: fewer than n.
+fn row_bound(n: usize, a: usize) -> u8
     requires { ⌜ n ≤ 256 ⌝ }
-    ensures { λ r. ⌜ r ≡ first-bound n a b ⌝ }
+    ensures { λ r. ⌜ r ≡ row-bound n a ⌝ }
 {
     if n <= a {
-        return 0;
-    }
-    if n <= b {
-        return 0;
-    }
-    if a == b {
         return 0;
     }
     (n - 1) as u8
 }
 
+// The bound at place `b` of a row.
+fn place_bound(n: usize, b: usize, bound: u8) -> u8
+    ensures { λ r. ⌜ r ≡ place-bound n bound b ⌝ }
+{
+    if b < n {
+        return bound;
+    }
+    0
+}
+
+// Fills row `a` with a bound at each of the `n` cards.
+fn fill_row(n: usize, a: usize, bound: u8, bounds: &mut [u8])
+    requires { ⌜ (a < 256) × (length (now bounds) ≡ 65536) ⌝ }
+    ensures { λ _. ⌜ Row-filled n bound (now (bounds .entry)) (now (bounds .exit)) a 256 ⌝ }
+{
+    let mut b: usize = 0;
+    while b < 256 {
+        bounds[256 * a + b] = place_bound(n, b, bound);
+        b += 1;
+    }
+}
+
+// Fills row `a` with what is known of it; a card has no hops to itself.
+fn start_row(n: usize, a: usize, bounds: &mut [u8])
+    requires { ⌜ (n ≤ 256) × (a < 256) × Started n (now bounds) a ⌝ }
+    ensures { λ _. ⌜ Started n (now (bounds .exit)) (a + 1) ⌝ }
+{
+    fill_row(n, a, row_bound(n, a), bounds);
+    bounds[256 * a + a] = 0;
+}
+
 // Fills the table with those bounds.
 fn start_bounds(n: usize, bounds: &mut [u8])
     requires { ⌜ (n ≤ 256) × (length (now bounds) ≡ 65536) ⌝ }
-    ensures { λ _. ⌜ Started n (now (bounds .exit)) 65536 ⌝ }
+    ensures { λ _. ⌜ Started n (now (bounds .exit)) 256 ⌝ }
 {
-    let mut i: usize = 0;
-    while i < 65536 {
-        bounds[i] = first_bound(n, i / 256, i % 256);
-        i += 1;
+    let mut a: usize = 0;
+    while a < 256 {
+        start_row(n, a, bounds);
+        a += 1;
     }
 }
 
