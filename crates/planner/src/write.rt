@@ -10,7 +10,7 @@ ghost use mathlib.Core.List.{_++_};
 use rack::bytes::number_at;
 
 // Appends a number of 16 bits, low byte first.
-fn put_number(output: &mut [u8], at: usize, v: usize)
+pub fn put_number(output: &mut [u8], at: usize, v: usize)
     requires { ⌜ at + 1 < length (now output) ⌝ }
     ensures { λ _. ⌜ Appends at (now (output .entry)) (now (output .exit)) (two-bytes v) ⌝ }
 {

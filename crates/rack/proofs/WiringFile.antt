@@ -47,7 +47,7 @@ pub number-at-two-bytes : (v : ℕ) (ys : List ℕ) → v < 65536 → number-at 
 unfolding number-at two-bytes
 number-at-two-bytes v ys h = two-bytes-value v h
 
-number-at-blocks : (n : ℕ) (f : ℕ → ℕ) (i : ℕ) → i < n → f i < 65536 → number-at (blocks n (λ i. two-bytes (f i))) (2 * i) ≡ f i
+pub number-at-blocks : (n : ℕ) (f : ℕ → ℕ) (i : ℕ) → i < n → f i < 65536 → number-at (blocks n (λ i. two-bytes (f i))) (2 * i) ≡ f i
 unfolding number-at two-bytes
 number-at-blocks n f i h l =
     let e : 2 * i ≡ i * 2 + 0 = omega arith in

@@ -1,0 +1,4 @@
+pub mod RecordBytes
+pub mod Returned
+pub mod Answers
+pub mod WalkAnswer

@@ -1,0 +1,93 @@
+-- 1 comes first, and a refused frame leaves all as it was; else the cards met and the record are written. Assumes nothing.
+use mathlib.Core.Path.{refl}
+use native.Mathlib.Omega.{arith}
+use Rattle.jolvente.proofs.WalkAnswer.{no-met-room, no-record-room, walk-refused, walk-said}
+use borrow.Author.Needs.{needs}
+use Rattle.jolvente.proofs.jolvente_walk.Statement.{statement}
+use Rattle.jolvente.proofs.jolvente_walk.Tie as tie
+
+returns : tie.Need-returns
+returns c =
+    let z = c .before .before .before .before .args in
+    no-met-room (z .plan .now) (z .from) (z .to) (z .met .now) (z .«record» .now) (λ e. omega arith)
+
+returns-2 : tie.Need-returns-2
+returns-2 c =
+    let z = c .before .before .before .before .before .args in
+    no-record-room (z .plan .now) (z .from) (z .to) (z .met .now) (z .«record» .now) (λ e. omega arith)
+
+long-at-requires : tie.Need-long-at-requires
+long-at-requires c κs = search needs
+
+long-at-requires-2 : tie.Need-long-at-requires-2
+long-at-requires-2 c κs = search needs
+
+slice-aggregate-walk-frame : tie.Need-slice-aggregate-walk-frame
+slice-aggregate-walk-frame c = search needs
+
+walk-frame-requires : tie.Need-walk-frame-requires
+walk-frame-requires c κs = search needs
+
+same-length : tie.Need-same-length
+same-length c = search needs
+
+returns-3 : tie.Need-returns-3
+returns-3 c =
+    let at-walk-frame = c .before .before .before in
+    let at-long-at = at-walk-frame .before .before .before .before in
+    let at-if2 = at-long-at .before .before in
+    let at-if1 = at-if2 .before in
+    let z = at-if1 .before .before .before .before .args in
+    let w = at-walk-frame .walk-frame in
+    walk-refused (z .plan .now) (z .from) (z .to) (z .met .now) (z .«record» .now) (omega (arith, at-if1 .if1 .left)) (omega (arith, at-if2 .if2 .left))
+    _ (at-long-at .long-at .ensures) (at-walk-frame .before .before .long-at2 .ensures) (w .result) _ _ refl (w .ensures .0) (w .ensures .1 .0) (w .ensures .1 .1) (λ e. omega arith)
+
+slice-aggregate-put-cards : tie.Need-slice-aggregate-put-cards
+slice-aggregate-put-cards c = search needs
+
+put-cards-requires : tie.Need-put-cards-requires
+put-cards-requires c κs = search needs
+
+put-record-requires : tie.Need-put-record-requires
+put-record-requires c κs = search needs
+
+same-length-2 : tie.Need-same-length-2
+same-length-2 c = search needs
+
+same-length-3 : tie.Need-same-length-3
+same-length-3 c = search needs
+
+returns-4 : tie.Need-returns-4
+returns-4 c =
+    let at-put-record = c .before .before in
+    let at-put-cards = at-put-record .before .before .before .before .before in
+    let at-if3 = at-put-cards .before .before .before in
+    let at-walk-frame = at-if3 .before .before .before in
+    let at-long-at = at-walk-frame .before .before .before .before in
+    let at-if2 = at-long-at .before .before in
+    let at-if1 = at-if2 .before in
+    let z = at-if1 .before .before .before .before .args in
+    let w = at-walk-frame .walk-frame in
+    walk-said (z .plan .now) (z .from) (z .to) (z .met .now) (z .«record» .now) (omega (arith, at-if1 .if1 .left)) (omega (arith, at-if2 .if2 .left))
+    _ (at-long-at .long-at .ensures) (at-walk-frame .before .before .long-at2 .ensures) (w .result) _ _ refl (w .ensures .0) (w .ensures .1 .0) (w .ensures .1 .1)
+    (omega (arith, at-if3 .if3 .left)) _ _ (at-put-cards .put-cards .ensures .0) (at-put-cards .put-cards .ensures .1)
+    (at-put-record .put-record .ensures .0) (at-put-record .put-record .ensures .1)
+
+pub jolvente-walk-spec : {M : Type 1} → statement M
+jolvente-walk-spec =
+    tie.close
+    (tie.spec
+    returns
+    returns-2
+    long-at-requires
+    long-at-requires-2
+    slice-aggregate-walk-frame
+    walk-frame-requires
+    same-length
+    returns-3
+    slice-aggregate-put-cards
+    put-cards-requires
+    put-record-requires
+    same-length-2
+    same-length-3
+    returns-4)

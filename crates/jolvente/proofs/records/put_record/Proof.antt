@@ -1,0 +1,55 @@
+-- Four numbers are appended to zeros, and fill them. Assumes nothing.
+use mathlib.Core.Path.{sym, subst, _∙_}
+use mathlib.Core.List.{List}
+use Prim.Native.Nat.{ℕ}
+use native.Mathlib.Omega.{arith}
+use lib.ListN.{length}
+use Rattle.jolvente.specs.Records.{Reads}
+use Rattle.jolvente.proofs.RecordBytes.{record-appended, record-reads}
+use borrow.Author.Needs.{needs}
+use Rattle.jolvente.proofs.records.put_record.Statement.{statement}
+use Rattle.jolvente.proofs.records.put_record.Tie as tie
+
+clear-bytes-requires : tie.Need-clear-bytes-requires
+clear-bytes-requires c κs = search needs
+
+put-long-requires : tie.Need-put-long-requires
+put-long-requires c κs = search needs
+
+put-long-requires-2 : tie.Need-put-long-requires-2
+put-long-requires-2 c κs = search needs
+
+put-long-requires-3 : tie.Need-put-long-requires-3
+put-long-requires-3 c κs = search needs
+
+put-long-requires-4 : tie.Need-put-long-requires-4
+put-long-requires-4 c κs = search needs
+
+same-length : tie.Need-same-length
+same-length c = search needs
+
+returns : tie.Need-returns
+returns c =
+    let at-fourth = c .before .before in
+    let at-third = at-fourth .before .before .before .before in
+    let at-second = at-third .before .before .before .before in
+    let at-first = at-second .before .before .before .before in
+    let at-clear = at-first .before .before .before .before in
+    let z = at-clear .before .before .before .args in
+    let is =
+    record-appended (z .x) (z .y) (z .z) (z .u) (length (z .«record» .now)) _ _ _ _ _ (at-clear .clear-bytes .ensures) (same-length c ∙ at-clear .before .before .before .pre)
+    (at-first .put-long .ensures) (at-second .put-long2 .ensures) (at-third .put-long3 .ensures) (at-fourth .put-long4 .ensures)
+    in
+    (is, subst (λ (x : List ℕ). Reads x (z .x) (z .y) (z .z) (z .u)) (sym is) (record-reads (z .x) (z .y) (z .z) (z .u) (omega arith) (omega arith) (omega arith) (omega arith)))
+
+pub put-record-spec : {M : Type 1} → statement M
+put-record-spec =
+    tie.close
+    (tie.spec
+    clear-bytes-requires
+    put-long-requires
+    put-long-requires-2
+    put-long-requires-3
+    put-long-requires-4
+    same-length
+    returns)

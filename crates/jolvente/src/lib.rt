@@ -1,0 +1,81 @@
+// The calls for C, by numbers and byte slices: write a plan, read a plan, walk a frame.
+ghost use Rattle.rack.specs.Hops.{hops};
+ghost use Rattle.reader.specs.Plan.{plan-wiring};
+ghost use Rattle.forwarder.specs.Calls.{Arrived, Can-take};
+ghost use Rattle.jolvente.specs.CCalls.{C-frame, C-full, C-read-says, C-walk-says, C-write-says};
+ghost use Rattle.jolvente.specs.Records.{cards-in, counts-in, walked-in};
+use forwarder::walk::Traffic;
+use forwarder::walk::walk_frame;
+use planner::write_plan;
+use reader::read::read_plan;
+use records::long_at;
+use records::put_cards;
+use records::put_record;
+
+pub mod records;
+
+// Writes the plan of a wiring file: 1 to 11. The record has the plan's length.
+#[no_mangle]
+pub extern "C" fn jolvente_write_plan(wiring: &[u8], plan: &mut [u8], record: &mut [u8]) -> u32
+    ensures { λ r. ⌜ C-write-says (now (wiring .entry)) r (now (plan .entry)) (now (plan .exit)) (now («record» .entry)) (now («record» .exit)) ⌝ }
+{
+    if plan.len() != 16390 {
+        return 1;
+    }
+    if record.len() != 16 {
+        return 1;
+    }
+    let answer = write_plan(wiring, plan);
+    put_record(record, answer.value, 0, 0, 0);
+    answer.number + 256 * answer.at
+}
+
+// Reads a plan: 1, 12, 13. The record has the plan's sizes.
+#[no_mangle]
+pub extern "C" fn jolvente_read_plan(plan: &[u8], record: &mut [u8]) -> u32
+    ensures { λ r. ⌜ C-read-says (now (plan .entry)) r (now («record» .entry)) (now («record» .exit)) ⌝ }
+{
+    if record.len() != 16 {
+        return 1;
+    }
+    let sizes = read_plan(plan);
+    if sizes.number != 0 {
+        return sizes.number;
+    }
+    put_record(record, sizes.cards, sizes.links, sizes.columns, 0);
+    0
+}
+
+// Walks a frame: 1, 12, 14, 15. The record has how it ended, its hops, and the counts, which it had at entry.
+#[no_mangle]
+pub extern "C" fn jolvente_walk(
+    plan: &[u8],
+    from: u32,
+    to: u32,
+    met: &mut [u8],
+    record: &mut [u8],
+) -> u32
+    ensures says { λ r. ⌜ C-walk-says (now (plan .entry)) from to r (now (met .entry)) (now (met .exit)) (now («record» .entry)) (now («record» .exit)) ⌝ }
+    ensures arrives { λ r. ⌜ (C-frame (now (plan .entry)) from to (now (met .entry)) (now («record» .entry)) → Can-take (counts-in (now («record» .entry))) (hops (plan-wiring (now (plan .entry))) from to) → Arrived (now (plan .entry)) from to (counts-in (now («record» .entry))) (walked-in r (now («record» .exit))) (cards-in (now (met .exit)))) ⌝ }
+    ensures full { λ r. ⌜ (C-frame (now (plan .entry)) from to (now (met .entry)) (now («record» .entry)) → (Can-take (counts-in (now («record» .entry))) (hops (plan-wiring (now (plan .entry))) from to) → ⊥) → C-full r (now (met .entry)) (now (met .exit)) (now («record» .entry)) (now («record» .exit))) ⌝ }
+{
+    if met.len() != 512 {
+        return 1;
+    }
+    if record.len() != 16 {
+        return 1;
+    }
+    let traffic = Traffic {
+        frames: long_at(record, 8),
+        hops: long_at(record, 12),
+    };
+    let mut cards = [0u16; 256];
+    let w = walk_frame(plan, from, to, traffic, &mut cards);
+    if w.number != 0 {
+        return w.number;
+    }
+    put_cards(&cards, met);
+    let t = w.traffic;
+    put_record(record, w.arrived, w.hops, t.frames, t.hops);
+    0
+}

@@ -1,0 +1,78 @@
+/* Jolvente: addresses for intercom racks, plans, and walks over them.
+ *
+ * Link with libjolvente.a; nothing else is needed. The calls keep no state, allocate nothing and may run at the same time
+ * on different buffers.
+ *
+ * Every call returns R, and R % 256 is the refusal's number, 0 for none. With 6, 7, 8 and 10, R / 256 is the lowest link
+ * in fault; with 9 it is the lowest card that cannot be reached; else it is 0. Links and cards are counted from 0.
+ *
+ *    1  a lent buffer is not as long as this header says
+ *    2  the wiring file has fewer than 4 bytes
+ *    3  it has no card, or more than 256
+ *    4  it has more than 2,048 links
+ *    5  it is not 4 + 4 x links bytes long
+ *    6  a link has an end that is no card
+ *    7  a link has both ends at one card
+ *    8  an earlier link joins the same two cards
+ *    9  a card cannot be reached from card 0
+ *   10  a link closes a loop of odd length: no addresses exist
+ *   11  no addresses exist
+ *   12  the plan's layout is wrong: its sizes or its length
+ *   13  the plan is not the one that the planner writes for its wiring
+ *   14  a card number is not below the number of cards
+ *   15  a traffic count would pass 4,294,967,295
+ *
+ * With 1, nothing lent is touched. With 2 to 11, every lent byte is zero. With 12 to 15, every lent byte is as it was.
+ *
+ * A record is 16 lent bytes: four numbers of 32 bits, low byte first. Numbers in files have 16 bits, low byte first.
+ *
+ *   Wiring file: cards n, links m, then m first ends, then m second ends.
+ *   Plan file: n, m, columns k, the same two arrays, then n addresses of (k + 7) / 8 bytes each; column j is bit j % 8
+ *   of byte j / 8, bit 0 counting 1.
+ *
+ * Pointers must not be null, also where the length is 0. Buffers that a call writes must not overlap one another or what
+ * it reads.
+ */
+#ifndef JOLVENTE_H
+#define JOLVENTE_H
+
+#include <stddef.h>
+#include <stdint.h>
+
+#ifdef __cplusplus
+extern "C" {
+#endif
+
+enum {
+    JOLVENTE_PLAN_BYTES = 16390,
+    JOLVENTE_MET_BYTES = 512,
+    JOLVENTE_RECORD_BYTES = 16
+};
+
+/* Plans a wiring and writes its plan file.
+ *
+ * plan_len must be 16,390 and record_len 16. Writes the plan, zeros behind it, and the record (plan's length, 0, 0, 0).
+ * Refuses with 1 to 11. */
+uint32_t jolvente_write_plan(const uint8_t *wiring, size_t wiring_len, uint8_t *plan, size_t plan_len, uint8_t *record, size_t record_len);
+
+/* Reads a plan file, all plan_len bytes of it.
+ *
+ * record_len must be 16. Writes the record (cards, links, columns, 0). Refuses with 1, 12 and 13. */
+uint32_t jolvente_read_plan(const uint8_t *plan, size_t plan_len, uint8_t *record, size_t record_len);
+
+/* Walks a frame from one card to another.
+ *
+ * met_len must be 512 and record_len 16. Bytes 8 to 15 of the record hold two counts on entry: frames that arrived, and
+ * their hops. Writes into met the cards met as numbers of 16 bits, the first card first, zeros behind the last, and the
+ * record (1 for arrived or 0 for stuck, hops, the two counts). An arrived frame raises the counts by 1 and by its hops; a
+ * stuck one leaves them. Hops + 1 cards were met. Refuses with 1, 12, 14 and 15.
+ *
+ * The plan's layout alone is tested, so a frame can be stuck on a plan that jolvente_read_plan refuses. On a plan that it
+ * reads every frame arrives, by the fewest links. */
+uint32_t jolvente_walk(const uint8_t *plan, size_t plan_len, uint32_t from, uint32_t to, uint8_t *met, size_t met_len, uint8_t *record, size_t record_len);
+
+#ifdef __cplusplus
+}
+#endif
+
+#endif
