@@ -1,0 +1,264 @@
+//! Compares the C calls with the second implementation: `compare [SEED] [ROUNDS]`.
+//! A round plans a rack, reads and walks its plan, and tries faulty files and wrong buffers too.
+
+mod both;
+mod calls;
+mod faults;
+mod named;
+mod properties;
+mod racks;
+mod second;
+
+use both::{Both, Call, Lengths};
+use racks::{Rack, Rng, SHAPES};
+
+const SEED: u64 = 20_260_115;
+const ROUNDS: u64 = 4_000;
+const FEWEST_CALLS: u64 = 20_000;
+/// The most cards for the slow test of whole sides.
+const SMALL: usize = 14;
+const MOST: u32 = u32::MAX;
+
+fn main() {
+    let mut numbers = std::env::args()
+        .skip(1)
+        .map(|text| match text.parse::<u64>() {
+            Ok(number) => number,
+            Err(_) => stop(&format!(
+                "{text} is not a number. Use: compare [SEED] [ROUNDS]"
+            )),
+        });
+    let seed = numbers.next().unwrap_or(SEED);
+    let given_rounds = numbers.next();
+    let rounds = given_rounds.unwrap_or(ROUNDS);
+    println!("seed {seed}, {rounds} rounds");
+
+    let mut cases = Both::new(seed);
+    named::check(&mut cases);
+    println!("named cases: {} calls agree", cases.calls());
+
+    let mut both = Both::new(seed);
+    let mut rng = Rng::new(seed);
+    for round in 0..rounds {
+        both.round = round;
+        run_round(&mut both, &mut rng);
+    }
+    report(&both);
+    if given_rounds.is_none() {
+        check_reach(&both);
+    }
+}
+
+fn stop(message: &str) -> ! {
+    println!("{message}");
+    std::process::exit(1)
+}
+
+fn report(both: &Both) {
+    println!("rounds: {} calls agree", both.calls());
+    for (call, seen) in ["write_plan", "read_plan", "walk"].iter().zip(&both.seen) {
+        let counts = seen.iter().enumerate().filter(|(_, &count)| count > 0);
+        let counts: Vec<String> = counts
+            .map(|(number, count)| format!("{number}: {count}"))
+            .collect();
+        println!(
+            "{call}: {} calls, by number {}",
+            seen.iter().sum::<u64>(),
+            counts.join(", ")
+        );
+    }
+}
+
+/// The rounds must have met every number and be many.
+fn check_reach(both: &Both) {
+    for number in 0..16 {
+        if both.seen.iter().all(|seen| seen[number] == 0) {
+            stop(&format!("FAILED: no call was answered with {number}"));
+        }
+    }
+    if both.calls() < FEWEST_CALLS {
+        stop(&format!(
+            "FAILED: fewer than {FEWEST_CALLS} calls were made"
+        ));
+    }
+}
+
+fn run_round(both: &mut Both, rng: &mut Rng) {
+    let shape = &SHAPES[both.round as usize % SHAPES.len()];
+    let rack = (shape.make)(rng);
+    let rack = if rng.below(8) == 0 {
+        rack
+    } else {
+        rack.shuffled(rng)
+    };
+    let plan = plan_rack(both, &rack, shape.number);
+    if let Some(plan) = &plan {
+        follow_plan(both, rng, plan, 24);
+        for _ in 0..3 {
+            let damaged = faults::damaged_plan(rng, plan);
+            follow_plan(both, rng, &damaged, 5);
+        }
+    }
+    for _ in 0..3 {
+        let faulty = faults::faulty_wiring(rng, &rack);
+        let answer = both.write_plan(&faulty.wiring);
+        let right = faulty.number.is_none_or(|number| answer.number() == number);
+        both.expect(
+            right,
+            "not the number of the fault",
+            &faulty.wiring,
+            &answer,
+        );
+        wrong_lengths(both, rng, &[Call::WritePlan], &faulty.wiring);
+    }
+    let made_up = faults::made_up_plan(rng);
+    follow_plan(both, rng, &made_up, 12);
+    wrong_lengths(both, rng, &[Call::WritePlan], &rack.bytes());
+    let file = plan.filter(|_| rng.below(2) == 0).unwrap_or(made_up);
+    let (from, to) = (some_card(rng, &file), some_card(rng, &file));
+    wrong_lengths(both, rng, &[Call::ReadPlan, Call::Walk { from, to }], &file);
+}
+
+/// Plans a well-formed rack and tests the answer. Gives the plan of an accepted rack.
+fn plan_rack(both: &mut Both, rack: &Rack, number: Option<u32>) -> Option<Vec<u8>> {
+    let wiring = rack.bytes();
+    let answer = both.write_plan(&wiring);
+    let right = number.is_none_or(|number| answer.number() == number);
+    both.expect(
+        right,
+        "not the number of the rack's shape",
+        &wiring,
+        &answer,
+    );
+    if rack.cards <= SMALL {
+        let right = answer.code == properties::answer(rack);
+        both.expect(right, "not the answer by whole sides", &wiring, &answer);
+    }
+    if answer.code != 0 {
+        return None;
+    }
+    let [used, ..] = answer.record();
+    let (plan, rest) = answer.result().split_at(used as usize);
+    let fault = properties::plan_fault(rack, plan);
+    both.expect(fault.is_none(), fault.unwrap_or_default(), &wiring, &answer);
+    both.expect(
+        rest.iter().all(|&byte| byte == 0),
+        "bytes behind the plan are not zero",
+        &wiring,
+        &answer,
+    );
+    let read = both.read_plan(plan);
+    both.expect(read.code == 0, "a written plan is not read", plan, &read);
+    Some(plan.to_vec())
+}
+
+/// Reads a plan, sound or not, and walks it between some cards.
+fn follow_plan(both: &mut Both, rng: &mut Rng, plan: &[u8], walks: usize) {
+    let sound = both.read_plan(plan).code == 0;
+    let rack = sound.then(|| faults::plan_rack(plan));
+    let hops = rack.as_ref().map(properties::hops);
+    for _ in 0..walks {
+        let (from, to) = (some_card(rng, plan), some_card(rng, plan));
+        let counts = [some_count(rng), some_count(rng)];
+        let answer = both.walk(plan, from, to, counts);
+        let free = both.walk(plan, from, to, [0, 0]);
+        if let (Some(rack), Some(hops), 0) = (&rack, &hops, free.code) {
+            let (a, b) = (from as usize, to as usize);
+            let fewest = hops[a][b];
+            let right = free.record() == [1, fewest, 1, fewest]
+                && properties::is_shortest(rack, fewest, &free.met(), a, b);
+            both.expect(
+                right,
+                "a frame did not arrive by the fewest links",
+                plan,
+                &free,
+            );
+            let fits = counts[0] < MOST && counts[1] <= MOST - fewest;
+            both.expect(
+                fits == (answer.code == 0),
+                "not the limit of the counts",
+                plan,
+                &answer,
+            );
+        }
+        if free.code == 0 {
+            count_limits(both, plan, [from, to], free.record());
+        }
+    }
+}
+
+/// Repeats a walk that was made, with counts at their limits.
+fn count_limits(both: &mut Both, plan: &[u8], [from, to]: [u32; 2], [arrived, hops, ..]: [u32; 4]) {
+    let stuck = arrived == 0;
+    let just = both.walk(plan, from, to, [MOST - 1, MOST - hops]);
+    both.expect(just.code == 0, "counts that fit are refused", plan, &just);
+    let frames = both.walk(plan, from, to, [MOST, 0]);
+    both.expect(
+        stuck == (frames.code == 0),
+        "not the limit of the frames",
+        plan,
+        &frames,
+    );
+    if hops > 0 {
+        let total = both.walk(plan, from, to, [0, MOST - hops + 1]);
+        both.expect(
+            stuck == (total.code == 0),
+            "not the limit of the hops",
+            plan,
+            &total,
+        );
+    }
+}
+
+/// Mostly a card of the plan, at times a number near or beyond the last one.
+fn some_card(rng: &mut Rng, plan: &[u8]) -> u32 {
+    let cards = match plan {
+        [low, high, ..] => u32::from(u16::from_le_bytes([*low, *high])).max(1),
+        _ => 1,
+    };
+    let any = rng.draw() as u32;
+    match rng.below(16) {
+        0 => rng.pick(&[
+            cards,
+            cards - 1,
+            cards + 1,
+            256,
+            65_536,
+            65_536 + cards - 1,
+            MOST,
+            any,
+        ]),
+        1 => cards - 1,
+        _ => any % cards,
+    }
+}
+
+fn some_count(rng: &mut Rng) -> u32 {
+    let any = rng.draw() as u32;
+    let near = MOST - rng.below(260) as u32;
+    rng.pick(&[0, 1, any, any, near, near, MOST - 1, MOST])
+}
+
+/// Makes calls with at least one buffer of a wrong length; 1 comes before every other number.
+fn wrong_lengths(both: &mut Both, rng: &mut Rng, calls: &[Call], input: &[u8]) {
+    for &call in calls {
+        let right = call.lengths();
+        let mut lengths = right;
+        while lengths == right {
+            lengths = Lengths {
+                result: some_length(rng, right.result),
+                record: some_length(rng, right.record),
+            };
+        }
+        let counts = [some_count(rng), some_count(rng)];
+        let answer = both.call(call, input, lengths, counts);
+        both.expect(answer.code == 1, "a wrong length is not 1", input, &answer);
+    }
+}
+
+fn some_length(rng: &mut Rng, right: usize) -> usize {
+    match right {
+        0 => 0,
+        _ => rng.pick(&[0, right - 1, right, right, right + 1]),
+    }
+}
