@@ -6,6 +6,8 @@ use Rattle.reader.specs.Promises.{Read-exactly, Calls-agree, Layout-in-range, A
 use Rattle.reader.proofs.Promises as reader
 use Rattle.forwarder.specs.Promises.{Step-first, Step-local, Step-call-local, Walk-ends, Frame-arrives}
 use Rattle.forwarder.proofs.Promises as forwarder
+use Rattle.opened.specs.Promises.{Carries-exactly, Opening-whole, Refused-opening, Other-sizes, Opened-frame-arrives}
+use Rattle.opened.proofs.Promises as opened
 
 -- hops are the fewest links
 pub hops-fewest : Hops-fewest
@@ -98,3 +100,23 @@ walk-ends = forwarder.walk-ends
 -- every frame on a plan that was read arrives by the fewest links
 pub frame-arrives : Frame-arrives
 frame-arrives = forwarder.frame-arrives
+
+-- an opened plan's calls see its bytes exactly if they have a layout and the sizes carried are those in them
+pub carries-exactly : Carries-exactly
+carries-exactly = opened.carries-exactly
+
+-- an opening that was not refused carries its bytes
+pub opening-whole : Opening-whole
+opening-whole = opened.opening-whole
+
+-- a refused opening is 12 in every call
+pub refused-opening : Refused-opening
+refused-opening = opened.refused-opening
+
+-- so are sizes that differ from those in the bytes
+pub other-sizes : Other-sizes
+other-sizes = opened.other-sizes
+
+-- every frame on an opened plan that was read arrives by the fewest links
+pub opened-frame-arrives : Opened-frame-arrives
+opened-frame-arrives = opened.opened-frame-arrives

@@ -1,0 +1,46 @@
+-- What an opened plan holds, the bytes that a call on it sees, and what its calls answer. Assumes nothing: these are definitions.
+use mathlib.Core.Path.{_≡_}
+use mathlib.Core.Bool.{Bool, _&&_, cond}
+use mathlib.Core.List.{List, []}
+use Prim.Native.Nat.{ℕ}
+use lib.Dec.{eqb}
+use denote.Ref.{now}
+use Rattle.rack.specs.Hops.{hops}
+use Rattle.reader.specs.Plan.{plan-cards, plan-links, plan-columns, plan-wiring, layout-holds, plan-refusal}
+use Rattle.reader.specs.Promises.{Measured}
+use Rattle.reader.specs.Reading.{Read-says}
+use Rattle.reader.specs.declared.layout.Sizes.{Sizes}
+use Rattle.forwarder.specs.Calls.{Walk-says, Frame, Arrived, Full, Can-take}
+use Rattle.forwarder.specs.declared.walk.Traffic.{Traffic}
+use Rattle.forwarder.specs.declared.walk.Walked.{Walked}
+use Rattle.opened.specs.declared.Opened.{Opened}
+
+-- the bytes have a plan's layout, and the sizes carried with them are those in them
+unfoldable pub carries : List ℕ → (n m k : ℕ) → Bool
+carries ps n m k = layout-holds ps && eqb n (plan-cards ps) && eqb m (plan-links ps) && eqb k (plan-columns ps)
+
+-- what a call on an opened plan sees: its bytes, or none where its sizes are not those in them. No bytes are 12 in every call
+unfoldable pub carried-bytes : List ℕ → (n m k : ℕ) → List ℕ
+carried-bytes ps n m k = cond (carries ps n m k) ps []
+
+abbrev pub opened-bytes : Opened → List ℕ
+opened-bytes p = carried-bytes (now (p .bytes)) (p .cards) (p .links) (p .columns)
+
+-- opening: 12, 13, no bytes and sizes 0, or the bytes themselves with their sizes
+pub record Opening-says (ps : List ℕ) (r : Opened) : Type 0 where
+  pub number : r .number ≡ plan-refusal ps
+  pub bytes : now (r .bytes) ≡ cond (eqb (plan-refusal ps) 0) ps []
+  pub cards : r .cards ≡ cond (eqb (plan-refusal ps) 0) (plan-cards ps) 0
+  pub links : r .links ≡ cond (eqb (plan-refusal ps) 0) (plan-links ps) 0
+  pub columns : r .columns ≡ cond (eqb (plan-refusal ps) 0) (plan-columns ps) 0
+
+-- reading, with the promise that forwarding leans on
+pub record Read-with-promise (ps : List ℕ) (r : Sizes) : Type 0 where
+  pub says : Read-says ps r
+  pub promise : r .number ≡ 0 → Measured ps
+
+-- a walk, with demand 3: a frame that the counts can take arrives by the fewest links, and any other is 15
+pub record Walk-with-arrival (ps : List ℕ) (a b : ℕ) (t : Traffic) (r : Walked) (old new : List ℕ) : Type 0 where
+  pub says : Walk-says ps a b t r old new
+  pub arrives : Frame ps a b old → Can-take t (hops (plan-wiring ps) a b) → Arrived ps a b t r new
+  pub full : Frame ps a b old → (Can-take t (hops (plan-wiring ps) a b) → ⊥) → Full t r old new

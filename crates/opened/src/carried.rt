@@ -1,0 +1,129 @@
+// The calls on an opened plan, over its bytes and the three sizes carried with them: each is the call of a layer below on these
+// bytes, or on none of them where the sizes are not those in the bytes.
+ghost use mathlib.Core.Path.{_≡_};
+ghost use mathlib.Core.Bool.{cond};
+ghost use mathlib.Core.List.{[]};
+ghost use lib.Dec.{eqb};
+ghost use Rattle.reader.specs.Reading.{address-part, address-refusal};
+ghost use Rattle.forwarder.specs.Calls.{Step-says};
+ghost use Rattle.opened.specs.Opening.{carries, carried-bytes, Read-with-promise, Walk-with-arrival};
+use forwarder::step::Stepped;
+use forwarder::step::step_frame;
+use forwarder::walk::Traffic;
+use forwarder::walk::Walked;
+use forwarder::walk::walk_frame;
+use reader::layout::Sizes;
+use reader::layout::plan_layout;
+use reader::read::card_address;
+use reader::read::read_plan;
+
+// The bytes, or with a refusal none of them.
+pub fn bytes_unless<'a>(bytes: &'a [u8], number: u32) -> &'a [u8]
+    ensures { λ r. ⌜ now r ≡ cond (eqb number 0) (now (bytes .entry)) [] ⌝ }
+{
+    if number != 0 {
+        return &bytes[0..0];
+    }
+    bytes
+}
+
+// Whether the bytes have a plan's layout, with these sizes in them.
+fn carries(bytes: &[u8], cards: u32, links: u32, columns: u32) -> bool
+    ensures { λ r. ⌜ r ≡ carries (now (bytes .entry)) cards links columns ⌝ }
+{
+    let sizes = plan_layout(bytes);
+    if sizes.number != 0 {
+        return false;
+    }
+    if cards != sizes.cards {
+        return false;
+    }
+    if links != sizes.links {
+        return false;
+    }
+    columns == sizes.columns
+}
+
+// What a call sees: the bytes, or none of them where the sizes are not those in them.
+fn carried_bytes<'a>(bytes: &'a [u8], cards: u32, links: u32, columns: u32) -> &'a [u8]
+    ensures { λ r. ⌜ now r ≡ carried-bytes (now (bytes .entry)) cards links columns ⌝ }
+{
+    if carries(bytes, cards, links, columns) {
+        return bytes;
+    }
+    &bytes[0..0]
+}
+
+// Reads the plan: 12, 13, or its three sizes.
+pub fn read_carried(bytes: &[u8], cards: u32, links: u32, columns: u32) -> Sizes
+    ensures { λ r. ⌜ Read-with-promise (carried-bytes (now (bytes .entry)) cards links columns) r ⌝ }
+{
+    read_plan(carried_bytes(bytes, cards, links, columns))
+}
+
+// A card's address, as that part of the plan's own bytes; empty with a refusal.
+pub fn address_carried<'a>(
+    bytes: &'a [u8],
+    cards: u32,
+    links: u32,
+    columns: u32,
+    card: u32,
+) -> &'a [u8]
+    ensures { λ r. ⌜ now r ≡ address-part (carried-bytes (now (bytes .entry)) cards links columns) card ⌝ }
+{
+    let mut number: u32 = 0;
+    card_address(
+        carried_bytes(bytes, cards, links, columns),
+        card,
+        &mut number,
+    )
+}
+
+// The number beside that part: 12, 13, 14, or 0.
+pub fn address_refusal_carried(bytes: &[u8], cards: u32, links: u32, columns: u32, card: u32) -> u32
+    ensures { λ r. ⌜ r ≡ address-refusal (carried-bytes (now (bytes .entry)) cards links columns) card ⌝ }
+{
+    let mut number: u32 = 0;
+    let _part = card_address(
+        carried_bytes(bytes, cards, links, columns),
+        card,
+        &mut number,
+    );
+    number
+}
+
+// A step of a frame: 12, 14.
+pub fn step_carried(
+    bytes: &[u8],
+    cards: u32,
+    links: u32,
+    columns: u32,
+    from: u32,
+    goal: u32,
+) -> Stepped
+    ensures { λ r. ⌜ Step-says (carried-bytes (now (bytes .entry)) cards links columns) from goal r ⌝ }
+{
+    step_frame(carried_bytes(bytes, cards, links, columns), from, goal)
+}
+
+// A frame's walk: 1, 12, 14, 15.
+pub fn walk_carried(
+    bytes: &[u8],
+    cards: u32,
+    links: u32,
+    columns: u32,
+    from: u32,
+    goal: u32,
+    traffic: Traffic,
+    met: &mut [u16],
+) -> Walked
+    ensures { λ r. ⌜ Walk-with-arrival (carried-bytes (now (bytes .entry)) cards links columns) from goal traffic r (now (met .entry)) (now (met .exit)) ⌝ }
+{
+    walk_frame(
+        carried_bytes(bytes, cards, links, columns),
+        from,
+        goal,
+        traffic,
+        met,
+    )
+}
