@@ -8,6 +8,8 @@ use Rattle.forwarder.specs.Promises.{Step-first, Step-local, Step-call-local, W
 use Rattle.forwarder.proofs.Promises as forwarder
 use Rattle.opened.specs.Promises.{Carries-exactly, Opening-whole, Refused-opening, Other-sizes, Opened-frame-arrives}
 use Rattle.opened.proofs.Promises as opened
+use Rattle.listing_text.specs.Promises.{Listing-fits, Decimal-value, Decimal-first, Decimal-digits}
+use Rattle.listing_text.proofs.Promises as listing
 
 -- hops are the fewest links
 pub hops-fewest : Hops-fewest
@@ -120,3 +122,17 @@ other-sizes = opened.other-sizes
 -- every frame on an opened plan that was read arrives by the fewest links
 pub opened-frame-arrives : Opened-frame-arrives
 opened-frame-arrives = opened.opened-frame-arrives
+
+-- every listing fits its lent buffer
+pub listing-fits : Listing-fits
+listing-fits = listing.listing-fits
+
+-- a number in it reads back, has no zero in front, and is made of digits
+pub decimal-value : Decimal-value
+decimal-value = listing.decimal-value
+
+pub decimal-first : Decimal-first
+decimal-first = listing.decimal-first
+
+pub decimal-digits : Decimal-digits
+decimal-digits = listing.decimal-digits

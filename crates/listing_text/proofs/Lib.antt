@@ -1,0 +1,7 @@
+pub mod Putting
+pub mod Digits
+pub mod CardLines
+pub mod Refused
+pub mod Fits
+pub mod Listings
+pub mod Promises
