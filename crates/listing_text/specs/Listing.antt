@@ -51,10 +51,11 @@ line-end = codes "\n"
 unfoldable pub number-line : (word : List ℕ) → (v : ℕ) → List ℕ
 number-line word v = word ++ decimal v ++ line-end
 
--- an address of k columns, column 0 first, or - where k is 0
+-- the digit of column j
 abbrev pub column-digit : (row : ℕ → Bool) → (j : ℕ) → ℕ
 column-digit row j = digit-code (one (row j))
 
+-- an address of k columns, column 0 first, or - where k is 0
 unfoldable pub address-text : (k : ℕ) → (row : ℕ → Bool) → List ℕ
 address-text k row = cond (eqb k 0) dash (tabulate k (column-digit row))
 
