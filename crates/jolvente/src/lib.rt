@@ -12,7 +12,7 @@ use records::long_at;
 use records::put_cards;
 use records::put_record;
 
-pub mod records;
+mod records;
 
 // Writes the plan of a wiring file: 1 to 11. The record has the plan's length.
 #[no_mangle]
