@@ -27,21 +27,21 @@ pub struct Stepped {
 
 // The card at the other end of link `i` of `m` where it is one of card `a`'s, between two of the `n` cards; else `n`.
 fn far_card(plan: &[u8], n: usize, m: usize, k: usize, i: usize, a: usize) -> usize
-    requires { ⌜ Laid-out (now plan) n m k × (i < m) ⌝ }
+    requires { ⌜ Laid-out (now plan) n m k × (i < m) × (a < n) ⌝ }
     ensures { λ r. ⌜ r ≡ far-card n a (link-at (plan-wiring (now (plan .entry))) i) ⌝ }
 {
     let p = first_end(plan, 6, m, i);
     let q = second_end(plan, 6, m, i);
-    if n <= p {
-        return n;
-    }
-    if n <= q {
-        return n;
-    }
     if p == a {
+        if n <= q {
+            return n;
+        }
         return q;
     }
     if q == a {
+        if n <= p {
+            return n;
+        }
         return p;
     }
     n

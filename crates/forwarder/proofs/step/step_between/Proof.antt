@@ -27,7 +27,7 @@ loop-holds : tie.Need-loop-holds Inv-loop μ-loop
 loop-holds c = (omega arith, (λ j h. absurd (omega arith)), no-marks _ _ _)
 
 far-card-requires : tie.Need-far-card-requires Inv-loop μ-loop
-far-card-requires c κs = (c .before .before .before .before .before .pre .1, omega arith)
+far-card-requires c κs = let p = c .before .before .before .before .before .pre in (p .1, omega arith, p .2)
 
 is-nearer-requires : tie.Need-is-nearer-requires Inv-loop μ-loop
 is-nearer-requires c κs = let p = c .before .before .before .before .before .before .before .pre in (p .0, p .1, p .3, c .before .before .before .loop .inv .2)
