@@ -1,68 +1,28 @@
 -- What planning says: its answer and its buffers, from those of its last stage. Assumes nothing.
 use mathlib.Core.Path.{_≡_, refl, sym, ap, _∙_}
-use mathlib.Core.Bool.{Bool, true, false, _&&_, _||_, not, cond}
-use mathlib.Core.Logic.{⊎-elim, _≢_}
+use mathlib.Core.Bool.{false, _&&_, cond}
+use mathlib.Core.Logic.{_≢_}
 use mathlib.Core.List.{List, _++_}
-use Prim.Native.Nat.{ℕ, _+_, _*_, _-_, _≤_}
+use Prim.Native.Nat.{ℕ, _-_, _≤_}
 use native.Mathlib.Omega.{arith}
-use lib.Dec.{ltb, leb, eqb}
-use lib.ListN.{length, replicate, take}
+use lib.Dec.{eqb}
+use lib.ListN.{length, replicate}
 use borrow.Author.Tests.{eq-eqb, ne-eqb}
-use Rattle.rack.specs.Lists.{count}
-use Rattle.rack.specs.Wiring.{Wiring, link-count, link-at, joins}
-use Rattle.rack.specs.Hops.{hops, connected}
+use Rattle.rack.specs.Hops.{hops}
 use Rattle.rack.specs.Columns.{column-count}
-use Rattle.rack.specs.Refusals.{Refusal, most-parallel, link-fault, links-refusal, rack-refusal}
-use Rattle.rack.specs.WiringFile.{most-cards, most-links, number-at, file-wiring, sizes-fault, file-refusal}
-use Rattle.rack.proofs.Logic.{by-bool, by-eq}
-use Rattle.rack.proofs.Refusals.{lowest-fault-number}
-use Rattle.rack.proofs.Acceptance.{unconnected-refusal, connected-number}
+use Rattle.rack.specs.WiringFile.{file-wiring, file-refusal}
+use Rattle.rack.proofs.Logic.{by-eq}
 use Rattle.rack.proofs.Accepted.{file-clear}
 use Rattle.rack.proofs.WiringFile.{wiring-at-cards}
+use Rattle.rack.proofs.Numbers.{file-numbers}
 use Rattle.planner.specs.Stages.{File-planned}
 use Rattle.planner.specs.Planning.{lent-words, lent-hops, all-words, all-hops, left-in, Answer-is, planning-refusal, Plan-says}
 use Rattle.planner.specs.declared.Answer.{Answer}
 use Rattle.planner.proofs.Contents.{words-list, hops-list}
-use Rattle.planner.proofs.Answers.{refusal-of-sizes, refusal-of-links, refusal-of-rack}
 
 -- NO FILE is refused with 1
-cond-not-one : (t : Bool) (x y : ℕ) → x ≢ 1 → y ≢ 1 → cond t x y ≢ 1
-cond-not-one true x y hx hy = hx
-cond-not-one false x y hx hy = hy
-
-sizes-not-one : (bs : List ℕ) → sizes-fault bs ≢ 1
-unfolding sizes-fault
-sizes-not-one bs =
-    cond-not-one (ltb (length bs) 4) 2 _ (λ e. omega arith)
-    (cond-not-one (not (leb 1 (number-at bs 0) && leb (number-at bs 0) most-cards)) 3 _ (λ e. omega arith)
-    (cond-not-one (ltb most-links (number-at bs 2)) 4 _ (λ e. omega arith)
-    (cond-not-one (not (eqb (length bs) (4 + 4 * number-at bs 2))) 5 0 (λ e. omega arith) (λ e. omega arith))))
-
-link-not-one : (w : Wiring) (i : ℕ) → link-fault w i ≢ 1
-unfolding link-fault
-link-not-one w i =
-    cond-not-one (leb (w .cards) (link-at w i .first) || leb (w .cards) (link-at w i .second)) 6 _ (λ e. omega arith)
-    (cond-not-one (eqb (link-at w i .first) (link-at w i .second)) 7 _ (λ e. omega arith)
-    (cond-not-one (leb most-parallel (count (joins (link-at w i .first) (link-at w i .second)) (take i (w .links)))) 8 0 (λ e. omega arith) (λ e. omega arith)))
-
-links-not-one : (w : Wiring) → links-refusal w .number ≢ 1
-unfolding links-refusal
-links-not-one w e =
-    ⊎-elim (λ z. omega arith) (λ r. link-not-one w (r .0) (sym (r .2) ∙ e)) (lowest-fault-number (link-count w) (link-fault w))
-
-rack-not-one : (w : Wiring) → rack-refusal w .number ≢ 1
-rack-not-one w e =
-    by-bool (connected w)
-    (λ c. ⊎-elim (λ z. omega arith) (λ d. ⊎-elim (λ z. omega arith) (λ z. omega arith) d) (connected-number w c))
-    (λ c. let z : rack-refusal w .number ≡ 9 = rw (unconnected-refusal w c) refl in omega arith)
-
 pub file-not-one : (bs : List ℕ) → file-refusal bs .number ≢ 1
-file-not-one bs e =
-    by-eq (sizes-fault bs) 0
-    (λ z. by-eq (links-refusal (file-wiring bs) .number) 0
-    (λ l. rack-not-one (file-wiring bs) (sym (ap (λ (f : Refusal). f .number) (refusal-of-rack bs z l)) ∙ e))
-    (λ l. links-not-one (file-wiring bs) (sym (ap (λ (f : Refusal). f .number) (refusal-of-links bs z l)) ∙ e)))
-    (λ z. sizes-not-one bs (sym (ap (λ (f : Refusal). f .number) (refusal-of-sizes bs z)) ∙ e))
+file-not-one bs = file-numbers bs .0
 
 -- BUFFERS
 pub left-untouched : (new old : List ℕ) → left-in 1 new old ≡ old

@@ -12,6 +12,7 @@ pub mod Refusals
 pub mod Acceptance
 pub mod FewColumns
 pub mod WiringFile
+pub mod Numbers
 pub mod Accepted
 pub mod Parity
 pub mod Promises
