@@ -58,22 +58,22 @@ fn is_nearer(
     c: usize,
     b: usize,
     left: u32,
-    far: &mut [bool; 256],
+    marks: &mut [bool; 256],
 ) -> bool
-    requires { ⌜ Counts (now ones) × Laid-out (now plan) n m k × (b < n) × No-nearer (now plan) b left (now far) ⌝ }
+    requires { ⌜ Counts (now ones) × Laid-out (now plan) n m k × (b < n) × No-nearer (now plan) b left (now marks) ⌝ }
     ensures is { λ r. ⌜ r ≡ (ltb c n && ltb (plan-hamming (now (plan .entry)) c b) left) ⌝ }
-    ensures marks { λ r. ⌜ No-nearer (now (plan .entry)) b left (now (far .exit)) ⌝ }
+    ensures holds { λ r. ⌜ No-nearer (now (plan .entry)) b left (now (marks .exit)) ⌝ }
 {
     if n <= c {
         return false;
     }
-    if far[c] {
+    if marks[c] {
         return false;
     }
     if plan_hamming(ones, plan, n, m, k, c, b) < left {
         return true;
     }
-    far[c] = true;
+    marks[c] = true;
     false
 }
 
@@ -106,11 +106,11 @@ pub fn step_between(
         return no_link(0, 1);
     }
     let left = plan_hamming(ones, plan, n, m, k, a, b);
-    let mut far = [false; 256];
+    let mut marks = [false; 256];
     let mut i: usize = 0;
     while i < m {
         let c = far_card(plan, n, m, k, i, a);
-        if is_nearer(ones, plan, n, m, k, c, b, left, &mut far) {
+        if is_nearer(ones, plan, n, m, k, c, b, left, &mut marks) {
             return Stepped {
                 number: 0,
                 outcome: 2,

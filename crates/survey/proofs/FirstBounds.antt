@@ -19,19 +19,19 @@ use Rattle.survey.specs.Tables.{cell}
 use Rattle.survey.specs.Lowering.{Above, Row-filled, Started, row-bound, place-bound, first-bound}
 use Rattle.survey.proofs.Forms.{formed-cards, formed-few}
 
-cond-zero : (t : Bool) {x : ℕ} → x ≡ 0 → cond t 0 x ≡ 0
-cond-zero true e = refl
-cond-zero false e = e
+either-zero : (t : Bool) {x : ℕ} → x ≡ 0 → cond t 0 x ≡ 0
+either-zero true e = refl
+either-zero false e = e
 
 -- THE FIRST BOUNDS by cases
 module _ (n a b : ℕ) where
   pub first-bound-row : n ≤ a → first-bound n a b ≡ 0
   unfolding first-bound place-bound row-bound
-  first-bound-row h = rw (le-leb n a h) (cond-zero (eqb a b) (cond-zero (ltb b n) refl))
+  first-bound-row h = rw (le-leb n a h) (either-zero (eqb a b) (either-zero (ltb b n) refl))
 
   pub first-bound-place : n ≤ b → first-bound n a b ≡ 0
   unfolding first-bound place-bound
-  first-bound-place h = rw (le-ltb b n h) (cond-zero (eqb a b) refl)
+  first-bound-place h = rw (le-ltb b n h) (either-zero (eqb a b) refl)
 
   pub first-bound-self : a ≡ b → first-bound n a b ≡ 0
   unfolding first-bound

@@ -30,8 +30,8 @@ returns-3 c =
     let e = c .before .plan-hamming .ensures .0 in
     (rw (lt-ltb (z .c) (z .n) (omega arith), lt-ltb (plan-hamming (z .plan .now) (z .c) (z .b)) (z .left) (omega (arith, e))) refl, s .pre .3)
 
-element-write-far : tie.Need-element-write-far
-element-write-far c = omega (arith, c .before .before .before .before .before .before .pre .1 .few)
+element-write-marks : tie.Need-element-write-marks
+element-write-marks c = omega (arith, c .before .before .before .before .before .before .pre .1 .few)
 
 returns-4 : tie.Need-returns-4
 returns-4 c =
@@ -39,7 +39,7 @@ returns-4 c =
     let z = s .args in
     let e = c .before .plan-hamming .ensures .0 in
     let far = le-ltb (plan-hamming (z .plan .now) (z .c) (z .b)) (z .left) (omega (arith, e)) in
-    (rw (lt-ltb (z .c) (z .n) (omega arith), far) refl, one-mark-more (z .plan .now) (z .b) (z .left) (z .far .now) (z .c) (s .pre .3) far)
+    (rw (lt-ltb (z .c) (z .n) (omega arith), far) refl, one-mark-more (z .plan .now) (z .b) (z .left) (z .marks .now) (z .c) (s .pre .3) far)
 
 pub is-nearer-spec : {M : Type 1} → statement M
-is-nearer-spec = tie.close (tie.spec returns element-copy-out-if2 returns-2 plan-hamming-requires returns-3 element-write-far returns-4)
+is-nearer-spec = tie.close (tie.spec returns element-copy-out-if2 returns-2 plan-hamming-requires returns-3 element-write-marks returns-4)

@@ -9,10 +9,10 @@ use Rattle.forwarder.proofs.step.step_between.Statement.{statement}
 use Rattle.forwarder.proofs.step.step_between.Tie as tie
 
 abbrev Inv-loop : tie.InvT-loop
-Inv-loop ones plan n m k a b left far₀ i₀ far i = (i ≤ m) × None-before plan a b i × No-nearer plan b left far
+Inv-loop ones plan n m k a b left marks₀ i₀ marks i = (i ≤ m) × None-before plan a b i × No-nearer plan b left marks
 
 abbrev μ-loop : tie.MeasureT-loop
-μ-loop ones plan n m k a b left far₀ i₀ far i = m - i
+μ-loop ones plan n m k a b left marks₀ i₀ marks i = m - i
 
 no-link-requires : tie.Need-no-link-requires Inv-loop μ-loop
 no-link-requires c κs = search needs
