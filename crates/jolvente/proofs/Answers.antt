@@ -1,6 +1,6 @@
 -- What the C calls return and leave, from what the calls below them answer. Assumes nothing.
 use mathlib.Core.Path.{_≡_, refl, sym, ap, ap₂, _∙_}
-use mathlib.Core.Bool.{Bool, true, false, _&&_, cond, and-false}
+use mathlib.Core.Bool.{Bool, true, false, cond}
 use mathlib.Core.Logic.{_≢_}
 use mathlib.Core.List.{List, _++_, append-nil}
 use Prim.Native.Nat.{ℕ, _+_, _*_, _-_}
@@ -8,8 +8,8 @@ use native.Mathlib.Omega.{arith}
 use lib.Dec.{eqb}
 use lib.ListN.{length, replicate}
 use borrow.Author.Tests.{eq-eqb, ne-eqb}
-use Rattle.rack.specs.Refusals.{Refusal, refusal}
-use Rattle.rack.specs.WiringFile.{two-bytes, file-wiring, file-refusal}
+use Rattle.rack.specs.Refusals.{refusal}
+use Rattle.rack.specs.WiringFile.{two-bytes, file-wiring}
 use Rattle.rack.proofs.Logic.{by-eq}
 use Rattle.planner.specs.PlanBytes.{plan-bytes}
 use Rattle.planner.specs.Planning.{lent-plan, left-in, writing-refusal, Write-says}

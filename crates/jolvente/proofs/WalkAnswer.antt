@@ -1,6 +1,6 @@
 -- What the C walk returns and leaves, and demand 3 of it, from what the walk of a frame answers. Assumes nothing.
 use mathlib.Core.Path.{_≡_, refl, sym, ap, ap₂, subst, _∙_}
-use mathlib.Core.Bool.{_&&_, cond, and-false}
+use mathlib.Core.Bool.{and-false}
 use mathlib.Core.Logic.{_≢_}
 use mathlib.Core.List.{List, _++_}
 use Prim.Native.Nat.{ℕ, _+_, _*_, _-_}

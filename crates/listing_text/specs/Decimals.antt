@@ -20,7 +20,7 @@ decimal v = digits 10 v
 -- the number that digits behind a number give
 unfoldable pub value-behind : (before : ℕ) → List ℕ → ℕ
 value-behind v [] = v
-value-behind v (x ∷ xs) = value-behind (10 * v + (x - 48)) xs
+value-behind v (x ∷ xs) = value-behind (10 * v + (x - digit-code 0)) xs
 
 -- the number that digits say, the highest first
 unfoldable pub value : List ℕ → ℕ

@@ -87,6 +87,3 @@ planned-found f w r ws h e n a v words hops =
       long-words = words .long;
       long-hops = hops .long;
     }
-
-pub planned-of : (f g : Refusal) (w : Wiring) (r : Answer) (ws h : List ℕ) → f ≡ g → Planned-as g w r ws h → Planned-as f w r ws h
-planned-of f g w r ws h e p = rw e p

@@ -77,12 +77,6 @@ differ-false true false h = cc
 differ-false false true h = cc
 differ-false false false h = refl
 
-pub ne-differ : (x y : Bool) → x ≢ y → differ x y ≡ true
-ne-differ x y n = by-bool (differ x y) (λ e. e) (λ e. absurd (n (differ-false x y e)))
-
-pub differ-ne : (x y : Bool) → differ x y ≡ true → x ≢ y
-differ-ne x y h e = true-not-false (differ x y) h (rw e (differ-self y))
-
 -- of two sides of a split, seen from p or from z
 pub differ-from : (x p z : Bool) → differ (not (differ x p)) (not (differ z p)) ≡ differ x z
 differ-from true true true = refl

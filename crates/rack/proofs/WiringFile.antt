@@ -43,10 +43,6 @@ number-at-right xs ys i =
     let e : suc (length xs + i) ≡ length xs + suc i = omega arith in
     rw e (ap₂ (λ (a b : ℕ). a + 256 * b) (getD-append-add xs ys i 0) (getD-append-add xs ys (suc i) 0))
 
-pub number-at-two-bytes : (v : ℕ) (ys : List ℕ) → v < 65536 → number-at (two-bytes v ++ ys) 0 ≡ v
-unfolding number-at two-bytes
-number-at-two-bytes v ys h = two-bytes-value v h
-
 pub number-at-blocks : (n : ℕ) (f : ℕ → ℕ) (i : ℕ) → i < n → f i < 65536 → number-at (blocks n (λ i. two-bytes (f i))) (2 * i) ≡ f i
 unfolding number-at two-bytes
 number-at-blocks n f i h l =

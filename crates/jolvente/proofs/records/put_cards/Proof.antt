@@ -74,8 +74,12 @@ returns c =
     let at-args = at-clear .before .before .before .before in
     let cards = at-args .args .cards .now in
     let e : l .i ≡ 256 = omega arith in
-    let all = subst (λ (k : ℕ). Appends 0 (at-clear .clear-bytes .last .0) (l .bytes) (blocks k (λ j. two-bytes (getD cards j 0)))) e (l .inv .1 .adds) in
-    let is = cards-appended (length (at-args .args .bytes .now)) cards (at-clear .clear-bytes .last .0) (l .bytes) (at-clear .clear-bytes .ensures) (omega (arith, l .inv .1 .long)) (at-args .pre .0) all in
+    let zeros = at-clear .clear-bytes .last .0 in
+    let all = subst (λ (k : ℕ). Appends 0 zeros (l .bytes) (blocks k (λ j. two-bytes (getD cards j 0)))) e (l .inv .1 .adds) in
+    let is =
+    cards-appended (length (at-args .args .bytes .now)) cards zeros (l .bytes) (at-clear .clear-bytes .ensures)
+    (omega (arith, l .inv .1 .long)) (at-args .pre .0) all
+    in
     (is, subst (λ (x : List ℕ). cards-in x ≡ cards) (sym is) (cards-read cards (at-args .pre .0) (λ j h. l .inv .2 j (omega arith))))
 
 pub put-cards-spec : {M : Type 1} → statement M

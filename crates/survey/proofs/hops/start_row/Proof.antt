@@ -1,5 +1,5 @@
 -- The row is filled, and then its place on the diagonal is made 0. Assumes nothing.
-use mathlib.Core.Path.{_≡_, subst}
+use mathlib.Core.Path.{subst}
 use Prim.Native.Nat.{ℕ}
 use borrow.Author.Needs.{needs}
 use Rattle.survey.specs.Lowering.{Row-filled}
