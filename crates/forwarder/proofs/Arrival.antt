@@ -9,7 +9,7 @@ use lib.ListN.{length, replicate}
 use borrow.Author.Tests.{eq-eqb, ne-eqb, leb-true}
 use Rattle.rack.specs.Hops.{hops}
 use Rattle.rack.proofs.Logic.{not-true-false, and-left, and-right}
-use Rattle.reader.specs.Plan.{plan-wiring}
+use Rattle.rack.specs.PlanFile.{plan-wiring}
 use Rattle.reader.specs.Promises.{Measured}
 use Rattle.reader.specs.Reading.{layout-refusal}
 use Rattle.reader.proofs.Promises.{read-measured}

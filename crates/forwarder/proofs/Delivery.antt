@@ -14,7 +14,7 @@ use Rattle.rack.proofs.Lists.{In, in-getD, getD-in}
 use Rattle.rack.proofs.Paths.{Ends, linked-link, link-linked}
 use Rattle.rack.proofs.Hops.{hops-self, hops-zero, hops-triangle, hops-linked, hops-down}
 use Rattle.rack.proofs.WiringFile.{wiring-at-cards}
-use Rattle.reader.specs.Plan.{plan-cards, plan-columns, plan-wiring}
+use Rattle.rack.specs.PlanFile.{plan-cards, plan-columns, plan-wiring}
 use Rattle.reader.specs.Promises.{Measured}
 use Rattle.reader.proofs.Addresses.{hamming-columns}
 use Rattle.forwarder.specs.Forwarding.{Walk, walk-of, step, walk-from, walk}

@@ -7,7 +7,7 @@ use native.Mathlib.Omega.{arith}
 use lib.Dec.{leb}
 use borrow.Author.Tests.{eq-eqb, ne-eqb, le-leb, lt-leb}
 use Rattle.rack.proofs.Logic.{or-right}
-use Rattle.reader.specs.Plan.{plan-cards}
+use Rattle.rack.specs.PlanFile.{plan-cards}
 use Rattle.reader.specs.Reading.{layout-refusal, Layout-says}
 use Rattle.reader.specs.declared.layout.Sizes.{Sizes}
 use Rattle.reader.proofs.Reading.{says-laid-out}

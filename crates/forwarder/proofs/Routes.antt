@@ -6,7 +6,7 @@ use Prim.Native.Nat.{ℕ, suc, _+_, _-_, _≤_, _<_}
 use native.Mathlib.Omega.{arith}
 use lib.ListN.{length, set, replicate, length-append, length-replicate}
 use lib.Seq.{append-snoc, set-at}
-use Rattle.reader.specs.Plan.{plan-cards, plan-columns, plan-hamming}
+use Rattle.rack.specs.PlanFile.{plan-cards, plan-columns, plan-hamming}
 use Rattle.reader.proofs.Addresses.{hamming-columns}
 use Rattle.forwarder.specs.Forwarding.{Walk, step, walk-from, walk}
 use Rattle.forwarder.specs.Calls.{Step-is, walk-hops}

@@ -13,7 +13,7 @@ use borrow.Author.Tests.{eq-eqb, ne-eqb, ltb-true, lt-ltb, le-ltb}
 use Rattle.rack.specs.Wiring.{Link, link-at, touches, other-end}
 use Rattle.rack.proofs.Logic.{true-not-false, by-bool, by-eq, and-left, and-right}
 use Rattle.rack.proofs.WiringFile.{wiring-at-count}
-use Rattle.reader.specs.Plan.{plan-cards, plan-wiring, plan-hamming}
+use Rattle.rack.specs.PlanFile.{plan-cards, plan-wiring, plan-hamming}
 use Rattle.reader.specs.Reading.{Laid-out}
 use Rattle.forwarder.specs.Forwarding.{leads-nearer, step}
 use Rattle.forwarder.specs.Promises.{Step-first}

@@ -14,7 +14,8 @@ use Rattle.rack.proofs.Tables.{lowest-passes, lowest-ext}
 use Rattle.rack.proofs.Hamming.{hamming-ext}
 use Rattle.rack.proofs.Paths.{Ends}
 use Rattle.rack.proofs.WiringFile.{wiring-at-count}
-use Rattle.reader.specs.Plan.{plan-cards, plan-columns, layout-holds, plan-wiring, plan-bit, plan-hamming}
+use Rattle.rack.specs.PlanFile.{plan-cards, plan-columns, plan-wiring, plan-bit, plan-hamming}
+use Rattle.reader.specs.Plan.{layout-holds}
 use Rattle.reader.specs.Reading.{layout-refusal}
 use Rattle.forwarder.specs.Forwarding.{Step, step-of, leads-nearer, step}
 use Rattle.forwarder.specs.Promises.{Link-of, Step-local, Step-call-local}

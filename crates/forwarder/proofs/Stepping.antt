@@ -12,7 +12,7 @@ use Rattle.rack.specs.Wiring.{Link, Wiring, link-count, link-at, touches, other
 use Rattle.rack.proofs.Logic.{by-bool, by-eq, by-lt, or-cases, or-left, or-right, and-left, and-right}
 use Rattle.rack.proofs.Tables.{lowest-passes, lowest-least, lowest-is}
 use Rattle.rack.proofs.Paths.{Ends}
-use Rattle.reader.specs.Plan.{plan-cards, plan-wiring, plan-hamming}
+use Rattle.rack.specs.PlanFile.{plan-cards, plan-wiring, plan-hamming}
 use Rattle.forwarder.specs.Forwarding.{step-of, leads-nearer, step}
 use Rattle.forwarder.specs.Promises.{Step-first}
 

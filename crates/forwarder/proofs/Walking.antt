@@ -7,7 +7,7 @@ use native.Mathlib.Omega.{arith}
 use lib.ListN.{length}
 use borrow.Author.Tests.{eq-eqb, ne-eqb}
 use Rattle.rack.proofs.Logic.{by-eq}
-use Rattle.reader.specs.Plan.{plan-columns, plan-hamming}
+use Rattle.rack.specs.PlanFile.{plan-columns, plan-hamming}
 use Rattle.reader.proofs.Plan.{layout-facts}
 use Rattle.reader.proofs.Addresses.{hamming-columns}
 use Rattle.forwarder.specs.Forwarding.{Walk, walk-of, step, walk-from, walk}
@@ -51,4 +51,4 @@ pub walk-ends : Walk-ends
 unfolding Walk-ends
 walk-ends ps a b h =
     let r = walk-all-runs ps a b in
-    (r .0, r .1, r .2, r .3, omega (arith, r .4, hamming-columns ps a b, layout-facts ps h .columns))
+    (r .0, r .1, r .2, r .3, omega (arith, r .4, hamming-columns ps a b, layout-facts ps h .few-columns))

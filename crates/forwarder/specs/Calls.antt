@@ -6,7 +6,8 @@ use Prim.Native.Nat.{ℕ, suc, _+_, _*_, _-_, _≤_, _<_}
 use lib.Dec.{leb, eqb}
 use lib.ListN.{length, replicate}
 use Rattle.rack.specs.Hops.{hops, is-path}
-use Rattle.reader.specs.Plan.{plan-cards, plan-wiring, plan-refusal}
+use Rattle.rack.specs.PlanFile.{plan-cards, plan-wiring}
+use Rattle.reader.specs.Plan.{plan-refusal}
 use Rattle.reader.specs.Reading.{layout-refusal}
 use Rattle.forwarder.specs.Forwarding.{Step, step, Walk, walk}
 use Rattle.forwarder.specs.declared.step.Stepped.{Stepped}

@@ -5,7 +5,7 @@ use Prim.Native.Nat.{ℕ, zero, suc}
 use lib.Dec.{ltb, eqb}
 use Rattle.rack.specs.Lists.{lowest}
 use Rattle.rack.specs.Wiring.{Link, link-count, link-at, touches, other-end}
-use Rattle.reader.specs.Plan.{plan-cards, plan-columns, plan-wiring, plan-hamming}
+use Rattle.rack.specs.PlanFile.{plan-cards, plan-columns, plan-wiring, plan-hamming}
 
 -- greedy forwarding: 0 stuck (a local minimum), 1 arrived, 2 over a link to the card at its far end
 pub record Step : Type 0 where

@@ -6,7 +6,7 @@ use Prim.Native.Nat.{ℕ, _+_, _*_, _-_, _≤_, _<_}
 use lib.Dec.{ltb, eqb}
 use lib.ListN.{length, getD, replicate}
 use Rattle.rack.specs.Wiring.{Link, touches, other-end}
-use Rattle.reader.specs.Plan.{plan-hamming}
+use Rattle.rack.specs.PlanFile.{plan-hamming}
 use Rattle.reader.specs.Reading.{Laid-out}
 use Rattle.reader.specs.declared.layout.Sizes.{Sizes}
 use Rattle.forwarder.specs.Forwarding.{Walk}

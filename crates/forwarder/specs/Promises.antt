@@ -7,7 +7,8 @@ use Prim.Native.Nat.{ℕ, _≤_, _<_}
 use lib.ListN.{length}
 use Rattle.rack.specs.Wiring.{link-count, link-at, touches, other-end}
 use Rattle.rack.specs.Hops.{hops, is-path}
-use Rattle.reader.specs.Plan.{plan-cards, plan-links, plan-columns, plan-wiring, layout-holds, plan-refusal, plan-bit}
+use Rattle.rack.specs.PlanFile.{plan-cards, plan-links, plan-columns, plan-wiring, plan-bit}
+use Rattle.reader.specs.Plan.{layout-holds, plan-refusal}
 use Rattle.forwarder.specs.Forwarding.{step-of, leads-nearer, step, walk}
 use Rattle.forwarder.specs.Calls.{Step-says}
 use Rattle.forwarder.specs.declared.step.Stepped.{Stepped}

@@ -5,7 +5,7 @@ ghost use Prim.Native.Nat.{_<_};
 ghost use lib.Dec.{ltb};
 ghost use Rattle.rack.specs.Ones.{Counts};
 ghost use Rattle.rack.specs.Wiring.{link-at};
-ghost use Rattle.reader.specs.Plan.{plan-hamming, plan-wiring};
+ghost use Rattle.rack.specs.PlanFile.{plan-hamming, plan-wiring};
 ghost use Rattle.reader.specs.Reading.{Laid-out};
 ghost use Rattle.forwarder.specs.Forwarding.{step};
 ghost use Rattle.forwarder.specs.Calls.{Step-is, Step-says};

@@ -4,7 +4,7 @@ ghost use Prim.Native.Nat.{_<_, _≤_};
 ghost use lib.ListN.{length};
 ghost use Rattle.rack.specs.Hops.{hops};
 ghost use Rattle.rack.specs.Ones.{Counts};
-ghost use Rattle.reader.specs.Plan.{plan-wiring};
+ghost use Rattle.rack.specs.PlanFile.{plan-wiring};
 ghost use Rattle.reader.specs.Reading.{Laid-out};
 ghost use Rattle.forwarder.specs.Forwarding.{walk};
 ghost use Rattle.forwarder.specs.Calls.{Arrived, Can-take, Frame, Full, Walk-says};

@@ -9,16 +9,19 @@ use lib.Dec.{eqb}
 use lib.ListN.{length, replicate}
 use borrow.Author.Tests.{eq-eqb, ne-eqb}
 use Rattle.rack.specs.Refusals.{refusal}
-use Rattle.rack.specs.WiringFile.{two-bytes, file-wiring}
+use Rattle.rack.specs.Buffers.{two-bytes, four-bytes}
+use Rattle.rack.specs.WiringFile.{file-wiring}
 use Rattle.rack.proofs.Logic.{by-eq}
 use Rattle.planner.specs.PlanBytes.{plan-bytes}
-use Rattle.planner.specs.Planning.{lent-plan, left-in, writing-refusal, Write-says}
+use Rattle.rack.specs.Limits.{lent-plan}
+use Rattle.planner.specs.Planning.{left-in, writing-refusal, Write-says}
 use Rattle.planner.specs.declared.Answer.{Answer}
 use Rattle.planner.proofs.PlanAnswer.{file-not-one, left-untouched, left-filled, left-zero}
-use Rattle.reader.specs.Plan.{plan-cards, plan-links, plan-columns, plan-refusal}
+use Rattle.rack.specs.PlanFile.{plan-cards, plan-links, plan-columns}
+use Rattle.reader.specs.Plan.{plan-refusal}
 use Rattle.reader.specs.Reading.{Read-says}
 use Rattle.reader.specs.declared.layout.Sizes.{Sizes}
-use Rattle.jolvente.specs.Records.{lent-record, four-bytes, record-bytes}
+use Rattle.jolvente.specs.Records.{lent-record, record-bytes}
 use Rattle.jolvente.specs.CCalls.{returned, c-write-refusal, C-write-says, c-read-refusal, C-read-says}
 use Rattle.jolvente.proofs.RecordBytes.{length-record}
 

@@ -1,33 +1,15 @@
--- Numbers of 32 bits and cards in lent bytes: written one after another, and read back. Assumes nothing.
+-- Records and cards in lent bytes: written number by number, and read back. Assumes nothing.
 use mathlib.Core.Path.{_≡_, refl, sym, ap, _∙_}
-use mathlib.Core.List.{List, [], _++_, append-nil}
-use Prim.Native.Nat.{ℕ, _+_, _*_, _-_, _/_, _<_}
+use mathlib.Core.List.{List, [], _++_}
+use Prim.Native.Nat.{ℕ, _*_, _<_}
 use native.Mathlib.Omega.{arith}
 use lib.ListN.{length, getD, replicate, length-append}
 use Rattle.rack.specs.Lists.{tabulate, blocks}
-use Rattle.rack.specs.WiringFile.{number-at, two-bytes}
+use Rattle.rack.specs.Buffers.{number-at, two-bytes, Appends, four-bytes, number32-at}
+use Rattle.rack.proofs.Appending.{length-four-bytes, written-none, written-full, appends-then}
 use Rattle.rack.proofs.Tables.{tabulate-ext, tabulate-getD, length-blocks}
 use Rattle.rack.proofs.WiringFile.{length-two-bytes, number-at-blocks}
-use Rattle.planner.specs.Writing.{Written, Appends}
-use Rattle.planner.proofs.Appending.{written-none, appends-then}
-use Rattle.jolvente.specs.Records.{Reads, four-bytes, long-at, record-bytes, card-bytes, cards-in}
-
--- A BUFFER written to its end
-pub written-full : (out xs : List ℕ) → length xs ≡ length out → Written out xs → out ≡ xs
-written-full out xs e w =
-    let z : length out - length xs ≡ 0 = omega arith in
-    w .is ∙ ap (λ (k : ℕ). xs ++ replicate k 0) z ∙ append-nil xs
-
--- A NUMBER of 32 bits: two of 16 bits
-pub length-four-bytes : (v : ℕ) → length (four-bytes v) ≡ 4
-unfolding four-bytes two-bytes
-length-four-bytes v = refl
-
-pub appends-long : (at v : ℕ) (old mid new : List ℕ) → Appends at old mid (two-bytes v) → Appends (at + 2) mid new (two-bytes (v / 65536))
-    → Appends at old new (four-bytes v)
-unfolding four-bytes
-appends-long at v old mid new a b =
-    appends-then at (at + 2) old mid new (two-bytes v) (two-bytes (v / 65536)) (ap (λ (k : ℕ). at + k) (length-two-bytes v)) a b
+use Rattle.jolvente.specs.Records.{Reads, record-bytes, card-bytes, cards-in}
 
 -- A RECORD of four
 module _ (x y z u : ℕ) where
@@ -45,7 +27,7 @@ module _ (x y z u : ℕ) where
       written-full o₄ (record-bytes x y z u) (omega (arith, length-record)) (four [] refl (rw e (written-none n)))
 
   pub record-reads : x < 4294967296 → y < 4294967296 → z < 4294967296 → u < 4294967296 → Reads (record-bytes x y z u) x y z u
-  unfolding long-at record-bytes four-bytes number-at two-bytes
+  unfolding number32-at record-bytes four-bytes number-at two-bytes
   record-reads hx hy hz hu = record { first = omega arith; second = omega arith; third = omega arith; fourth = omega arith }
 
 -- CARDS: 256 numbers of 16 bits

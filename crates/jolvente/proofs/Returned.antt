@@ -8,7 +8,8 @@ use borrow.Author.Tests.{eq-eqb, ne-eqb}
 use Rattle.rack.specs.WiringFile.{file-refusal}
 use Rattle.rack.proofs.Logic.{by-eq}
 use Rattle.rack.proofs.Numbers.{file-numbers}
-use Rattle.planner.specs.Planning.{lent-plan, writing-refusal, Answer-is}
+use Rattle.rack.specs.Limits.{lent-plan}
+use Rattle.planner.specs.Planning.{writing-refusal, Answer-is}
 use Rattle.planner.specs.declared.Answer.{Answer}
 
 pub returned-fits : (bs : List ℕ) (room v : ℕ) (r : Answer) → Answer-is (writing-refusal bs room) v r → r .number + 256 * r .at < 4294967296

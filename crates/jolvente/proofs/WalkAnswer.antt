@@ -9,12 +9,13 @@ use lib.Dec.{eqb}
 use lib.ListN.{length, replicate}
 use borrow.Author.Tests.{eq-eqb, ne-eqb}
 use Rattle.rack.specs.Hops.{hops}
-use Rattle.reader.specs.Plan.{plan-wiring}
+use Rattle.rack.specs.PlanFile.{plan-wiring}
 use Rattle.forwarder.specs.Forwarding.{walk}
 use Rattle.forwarder.specs.Calls.{walk-hops, walk-refusal, Walk-says, Frame, Arrived, Full, Can-take}
 use Rattle.forwarder.specs.declared.walk.Traffic.{Traffic}
 use Rattle.forwarder.specs.declared.walk.Walked.{Walked}
-use Rattle.jolvente.specs.Records.{lent-record, lent-met, long-at, Reads, record-bytes, card-bytes, cards-in, counts-in, walked-in}
+use Rattle.rack.specs.Buffers.{number32-at}
+use Rattle.jolvente.specs.Records.{lent-record, lent-met, Reads, record-bytes, card-bytes, cards-in, counts-in, walked-in}
 use Rattle.jolvente.specs.CCalls.{c-walk-refusal, met-bytes, walk-record, C-walk-says, C-frame, C-full}
 
 module _ (ps : List ℕ) (a b : ℕ) (met rec : List ℕ) where
@@ -42,8 +43,8 @@ module _ (ps : List ℕ) (a b : ℕ) (met rec : List ℕ) where
   )
 
   -- THE WALK of a frame, in 256 numbers, with the record's counts
-  module _ (room : length met ≡ lent-met) (record-room : length rec ≡ lent-record) (t : Traffic) (frames-in : t .frames ≡ long-at rec 8)
-      (hops-in : t .hops ≡ long-at rec 12) (w : Walked) (cards cards-now : List ℕ) (many : length cards ≡ 256) (walk-says : Walk-says ps a b t w cards cards-now)
+  module _ (room : length met ≡ lent-met) (record-room : length rec ≡ lent-record) (t : Traffic) (frames-in : t .frames ≡ number32-at rec 8)
+      (hops-in : t .hops ≡ number32-at rec 12) (w : Walked) (cards cards-now : List ℕ) (many : length cards ≡ 256) (walk-says : Walk-says ps a b t w cards cards-now)
       (walk-arrives : Frame ps a b cards → Can-take t fewest → Arrived ps a b t w cards-now)
       (walk-full : Frame ps a b cards → (Can-take t fewest → ⊥) → Full t w cards cards-now) where
     counts : t ≡ counts-in rec

@@ -9,7 +9,8 @@ use Rattle.rack.specs.Refusals.{Refusal, refusal}
 use Rattle.rack.specs.WiringFile.{file-wiring}
 use Rattle.planner.specs.PlanBytes.{plan-bytes}
 use Rattle.planner.specs.Planning.{left-in, writing-refusal}
-use Rattle.reader.specs.Plan.{plan-cards, plan-links, plan-columns, plan-refusal}
+use Rattle.rack.specs.PlanFile.{plan-cards, plan-links, plan-columns}
+use Rattle.reader.specs.Plan.{plan-refusal}
 use Rattle.forwarder.specs.Forwarding.{Walk, walk}
 use Rattle.forwarder.specs.Calls.{walk-hops, walk-refusal}
 use Rattle.forwarder.specs.declared.walk.Traffic.{Traffic}

@@ -1,10 +1,10 @@
 -- The lent bytes of the C calls: records of four numbers of 32 bits, and cards of 16 bits. Assumes nothing: these are definitions.
 use mathlib.Core.Path.{_≡_}
 use mathlib.Core.List.{List, _++_}
-use Prim.Native.Nat.{ℕ, _+_, _*_, _/_}
+use Prim.Native.Nat.{ℕ, _*_}
 use lib.ListN.{length, getD}
 use Rattle.rack.specs.Lists.{tabulate, blocks}
-use Rattle.rack.specs.WiringFile.{number-at, two-bytes}
+use Rattle.rack.specs.Buffers.{number-at, number32-at, two-bytes, four-bytes}
 use Rattle.forwarder.specs.declared.walk.Traffic.{Traffic}
 use Rattle.forwarder.specs.declared.walk.Walked.{Walked}
 
@@ -14,23 +14,15 @@ lent-record = 16
 abbrev pub lent-met : ℕ
 lent-met = 512
 
--- a number of 32 bits, low byte first
-unfoldable pub four-bytes : ℕ → List ℕ
-four-bytes v = two-bytes v ++ two-bytes (v / 65536)
-
--- the number of 32 bits at a place
-unfoldable pub long-at : List ℕ → (i : ℕ) → ℕ
-long-at bs i = number-at bs i + 65536 * number-at bs (i + 2)
-
 -- a record's four numbers, and a record that reads so
 unfoldable pub record-bytes : (x y z u : ℕ) → List ℕ
 record-bytes x y z u = four-bytes x ++ four-bytes y ++ four-bytes z ++ four-bytes u
 
 pub record Reads (bs : List ℕ) (x y z u : ℕ) : Type 0 where
-  pub first : long-at bs 0 ≡ x
-  pub second : long-at bs 4 ≡ y
-  pub third : long-at bs 8 ≡ z
-  pub fourth : long-at bs 12 ≡ u
+  pub first : number32-at bs 0 ≡ x
+  pub second : number32-at bs 4 ≡ y
+  pub third : number32-at bs 8 ≡ z
+  pub fourth : number32-at bs 12 ≡ u
 
 -- cards as numbers of 16 bits
 unfoldable pub card-bytes : List ℕ → List ℕ
@@ -41,7 +33,7 @@ unfoldable pub cards-in : List ℕ → List ℕ
 cards-in bs = tabulate 256 (λ i. number-at bs (2 * i))
 
 unfoldable pub counts-in : List ℕ → Traffic
-counts-in bs = record { frames = long-at bs 8; hops = long-at bs 12 }
+counts-in bs = record { frames = number32-at bs 8; hops = number32-at bs 12 }
 
 unfoldable pub walked-in : (number : ℕ) → List ℕ → Walked
-walked-in x bs = record { number = x; arrived = long-at bs 0; hops = long-at bs 4; traffic = counts-in bs }
+walked-in x bs = record { number = x; arrived = number32-at bs 0; hops = number32-at bs 4; traffic = counts-in bs }

@@ -1,14 +1,14 @@
 // The calls for C, by numbers and byte slices: write a plan, read a plan, walk a frame.
 ghost use Rattle.rack.specs.Hops.{hops};
-ghost use Rattle.reader.specs.Plan.{plan-wiring};
+ghost use Rattle.rack.specs.PlanFile.{plan-wiring};
 ghost use Rattle.forwarder.specs.Calls.{Arrived, Can-take};
 ghost use Rattle.jolvente.specs.CCalls.{C-frame, C-full, C-read-says, C-walk-says, C-write-says};
 ghost use Rattle.jolvente.specs.Records.{cards-in, counts-in, walked-in};
 use forwarder::walk::Traffic;
 use forwarder::walk::walk_frame;
 use planner::write_plan;
+use rack::bytes::number32_at;
 use reader::read::read_plan;
-use records::long_at;
 use records::put_cards;
 use records::put_record;
 
@@ -66,8 +66,8 @@ pub extern "C" fn jolvente_walk(
         return 1;
     }
     let traffic = Traffic {
-        frames: long_at(record, 8),
-        hops: long_at(record, 12),
+        frames: number32_at(record, 8),
+        hops: number32_at(record, 12),
     };
     let mut cards = [0u16; 256];
     let w = walk_frame(plan, from, to, traffic, &mut cards);

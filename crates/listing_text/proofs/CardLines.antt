@@ -11,11 +11,10 @@ use lib.ListN.{length}
 use borrow.Author.Tests.{eq-eqb, ne-eqb}
 use Rattle.rack.specs.Lists.{one, tabulate, blocks}
 use Rattle.rack.specs.Bits.{number-bit}
-use Rattle.rack.proofs.Tables.{length-tabulate, blocks-add}
-use Rattle.planner.proofs.Appending.{blocks-snoc}
-use Rattle.listing_text.specs.Decimals.{decimal}
+use Rattle.rack.proofs.Tables.{length-tabulate, blocks-add, blocks-snoc}
+use Rattle.text.specs.Decimals.{decimal}
 use Rattle.listing_text.specs.Listing.{card-word, space, dash, line-end, column-digit, size-lines, address-text, card-line, rack-lines}
-use Rattle.listing_text.proofs.Putting.{room-first}
+use Rattle.text.proofs.Putting.{room-first}
 
 -- A BIT as a digit
 one-of-two : (x : ℕ) → x < 2 → one (eqb x 1) ≡ x

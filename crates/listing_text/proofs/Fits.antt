@@ -14,11 +14,11 @@ use Rattle.rack.specs.WiringFile.{file-wiring, file-refusal}
 use Rattle.rack.proofs.Logic.{by-bool, by-eq}
 use Rattle.rack.proofs.Accepted.{wiring-accepted, file-clear}
 use Rattle.rack.proofs.WiringFile.{wiring-at-cards, wiring-at-count}
-use Rattle.listing_text.specs.Decimals.{decimal}
+use Rattle.text.specs.Decimals.{decimal}
 use Rattle.listing_text.specs.Listing.{cards-word, links-word, columns-word, card-word, refused-word, at-link, at-card, space, dash, line-end}
 use Rattle.listing_text.specs.Listing.{number-line, address-text, card-line, size-lines, rack-lines, rack-text}
 use Rattle.listing_text.specs.Listing.{carries-link, carried-text, refused-text, listing, lent-text}
-use Rattle.listing_text.proofs.Digits.{digits-most, digits-few}
+use Rattle.text.proofs.Digits.{digits-most, digits-few}
 use Rattle.listing_text.proofs.CardLines.{address-none, length-columns}
 use Rattle.listing_text.proofs.Refused.{carried-link, carried-card, carried-none}
 

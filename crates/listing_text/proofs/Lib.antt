@@ -1,5 +1,3 @@
-pub mod Putting
-pub mod Digits
 pub mod CardLines
 pub mod Refused
 pub mod Fits

@@ -9,7 +9,8 @@ use borrow.Author.Tests.{eq-eqb, ne-eqb}
 use Rattle.rack.specs.Wiring.{Wiring, link-count}
 use Rattle.rack.specs.Columns.{columns, column-count, address}
 use Rattle.rack.specs.Refusals.{refusal}
-use Rattle.rack.specs.WiringFile.{number-at, file-wiring, file-refusal}
+use Rattle.rack.specs.Buffers.{number-at}
+use Rattle.rack.specs.WiringFile.{file-wiring, file-refusal}
 use Rattle.rack.proofs.Tables.{tabulate-ext, blocks-ext}
 use Rattle.rack.proofs.Accepted.{file-clear}
 use Rattle.rack.proofs.WiringFile.{Sized, wiring-at-cards, wiring-at-count}
@@ -18,11 +19,12 @@ use Rattle.planner.specs.Planning.{Answer-is}
 use Rattle.planner.specs.Words.{word-bit}
 use Rattle.planner.specs.declared.Answer.{Answer}
 use Rattle.planner.proofs.AddressWords.{word-bit-column}
-use Rattle.planner.proofs.Appending.{written-none}
+use Rattle.rack.proofs.Appending.{written-none}
 use Rattle.planner.proofs.PlanAnswer.{left-untouched, left-filled}
 use Rattle.listing_text.specs.Listing.{listing, column-digit, address-text, card-line, rack-lines, rack-text, refused-text}
 use Rattle.listing_text.specs.Listing.{lent-text, listing-refusal, Listing-says}
-use Rattle.listing_text.specs.Putting.{Puts, Planned}
+use Rattle.text.specs.Putting.{Puts}
+use Rattle.listing_text.specs.Planned.{Planned}
 use Rattle.listing_text.proofs.Fits.{accepted-sizes, listing-fits}
 
 -- THE CARD LINES from the words

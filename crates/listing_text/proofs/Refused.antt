@@ -8,9 +8,9 @@ use native.Mathlib.Omega.{arith}
 use lib.ListN.{length}
 use borrow.Author.Tests.{eq-eqb, ne-eqb}
 use Rattle.rack.specs.Refusals.{Refusal, refusal}
-use Rattle.listing_text.specs.Decimals.{decimal}
+use Rattle.text.specs.Decimals.{decimal}
 use Rattle.listing_text.specs.Listing.{refused-word, at-link, at-card, line-end, carries-link, carried-text, refused-text}
-use Rattle.listing_text.proofs.Putting.{room-first}
+use Rattle.text.proofs.Putting.{room-first}
 
 -- WHAT IT CARRIES, from the test of its number
 pub carried-link : (number at : ℕ) (t : Bool) → t ≡ carries-link number → t ≡ true → carried-text (refusal number at) ≡ at-link ++ decimal at

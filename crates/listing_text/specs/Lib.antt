@@ -1,5 +1,3 @@
-pub mod Codes
-pub mod Decimals
 pub mod Listing
-pub mod Putting
+pub mod Planned
 pub mod Promises

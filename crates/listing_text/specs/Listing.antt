@@ -12,8 +12,8 @@ use Rattle.rack.specs.Refusals.{Refusal, refusal}
 use Rattle.rack.specs.WiringFile.{file-wiring, file-refusal}
 use Rattle.planner.specs.Planning.{Answer-is, left-in}
 use Rattle.planner.specs.declared.Answer.{Answer}
-use Rattle.listing_text.specs.Codes.{codes}
-use Rattle.listing_text.specs.Decimals.{digit-code, decimal}
+use Rattle.text.specs.Codes.{codes}
+use Rattle.text.specs.Decimals.{digit-code, decimal}
 
 -- THE FIXED WORDS
 unfoldable pub cards-word : List ℕ

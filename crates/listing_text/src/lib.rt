@@ -2,16 +2,21 @@
 ghost use mathlib.Core.Path.{_≡_};
 ghost use lib.ListN.{length};
 ghost use Rattle.listing_text.specs.Listing.{listing, lent-text, Listing-says};
-ghost use Rattle.listing_text.specs.Putting.{Puts, Planned};
+ghost use Rattle.text.specs.Putting.{Puts};
+ghost use Rattle.listing_text.specs.Planned.{Planned};
 use lines::put_rack;
 use lines::put_refused;
 use planner::Answer;
-use planner::fill::clear_bytes;
 use planner::plan_file;
 use rack::bytes::number_at;
+use rack::fill::clear_bytes;
+use rack::limits::LENT_HOPS;
+use rack::limits::LENT_WORDS;
 
 mod lines;
-mod put;
+
+// The length of the lent buffer.
+pub const LENT_TEXT: usize = 67873;
 
 // Writes the listing of a planned file; gives its length.
 fn put_listing(file: &[u8], plan: Answer, words: &[u64], text: &mut [u8]) -> usize
@@ -30,7 +35,7 @@ fn put_listing(file: &[u8], plan: Answer, words: &[u64], text: &mut [u8]) -> usi
 pub fn listing_text(file: &[u8], text: &mut [u8]) -> Answer
     ensures { λ r. ⌜ Listing-says (now (file .entry)) r (now (text .entry)) (now (text .exit)) ⌝ }
 {
-    if text.len() != 67873 {
+    if text.len() != LENT_TEXT {
         return Answer {
             number: 1,
             at: 0,
@@ -38,8 +43,8 @@ pub fn listing_text(file: &[u8], text: &mut [u8]) -> Answer
         };
     }
     clear_bytes(text);
-    let mut words = [0u64; 1024];
-    let mut hops = [0u8; 65536];
+    let mut words = [0u64; LENT_WORDS];
+    let mut hops = [0u8; LENT_HOPS];
     let plan = plan_file(file, &mut words, &mut hops);
     let length = put_listing(file, plan, &words, text);
     Answer {

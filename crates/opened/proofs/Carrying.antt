@@ -1,12 +1,13 @@
 -- Whether sizes are those in a plan's bytes, as the code compares them, and what a call then sees. Assumes nothing.
-use mathlib.Core.Path.{_≡_, refl, ap, _∙_}
+use mathlib.Core.Path.{_≡_, refl, sym, ap, _∙_, subst}
 use mathlib.Core.Bool.{true, false, _&&_, cond}
 use mathlib.Core.Logic.{_≢_}
 use mathlib.Core.List.{List, []}
-use Prim.Native.Nat.{ℕ}
+use Prim.Native.Nat.{ℕ, _+_}
+use native.Mathlib.Omega.{arith}
 use lib.Dec.{eqb}
-use denote.Ref.{now}
-use Rattle.reader.specs.Reading.{Layout-says, Read-says}
+use Rattle.reader.specs.Promises.{Measured}
+use Rattle.reader.specs.Reading.{Layout-says, Read-says, Slice-is}
 use Rattle.reader.specs.declared.layout.Sizes.{Sizes}
 use Rattle.reader.proofs.Reading.{says-laid-out, says-no-layout}
 use Rattle.reader.proofs.ReadAnswer.{layout-passed}
@@ -32,14 +33,19 @@ module _ (ps : List ℕ) (n m k : ℕ) where
   unfolding carried-bytes
   carried-none t = rw t refl
 
+-- no bytes are handed out from the first byte on
+pub none-from-start : (at : ℕ × ℕ) → (at .0, 0 + at .1) ≡ at
+none-from-start at = ap (λ (o : ℕ). (at .0, o)) (omega arith)
+
 -- an opened plan made of what reading answers, and of the bytes or none of them by its number
-pub opening-says : (ps : List ℕ) (r : Sizes) (p : Opened) → Read-says ps r → p .number ≡ r .number → now (p .bytes) ≡ cond (eqb (r .number) 0) ps []
-    → p .cards ≡ r .cards → p .links ≡ r .links → p .columns ≡ r .columns → Opening-says ps p
-opening-says ps r p s number bytes cards links columns =
+pub opening-says : (ps : List ℕ) (at : ℕ × ℕ) (r : Sizes) (p : Opened) → Read-says ps r → (r .number ≡ 0 → Measured ps) → p .number ≡ r .number
+    → Slice-is at (cond (eqb (r .number) 0) ps []) (p .bytes) → p .cards ≡ r .cards → p .links ≡ r .links → p .columns ≡ r .columns → Opening-says ps at p
+opening-says ps at r p s promise number bytes cards links columns =
     record {
       number = number ∙ s .number;
-      bytes = bytes ∙ ap (λ (x : ℕ). cond (eqb x 0) ps []) (s .number);
+      bytes = subst (λ (x : ℕ). Slice-is at (cond (eqb x 0) ps []) (p .bytes)) (s .number) bytes;
       cards = cards ∙ s .cards;
       links = links ∙ s .links;
       columns = columns ∙ s .columns;
+      promise = λ e. promise (sym number ∙ e);
     }

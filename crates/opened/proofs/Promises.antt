@@ -3,18 +3,21 @@ use mathlib.Core.Path.{_≡_, refl, sym, ap, _∙_, subst}
 use mathlib.Core.Bool.{Bool, true, false, _&&_}
 use mathlib.Core.List.{List, []}
 use mathlib.Core.Logic.{_≢_}
-use Prim.Native.Nat.{ℕ}
+use Prim.Native.Nat.{ℕ, _≤_}
+use native.Mathlib.Omega.{arith}
 use lib.Dec.{eqb}
 use denote.Ref.{now}
 use borrow.Author.Tests.{eqb-true, eq-eqb, ne-eqb}
-use Rattle.rack.proofs.Logic.{and-left, and-right, not-true-false}
-use Rattle.reader.specs.Plan.{plan-cards, plan-links, plan-columns, layout-holds, plan-refusal}
+use Rattle.rack.proofs.Logic.{and-left, and-right, not-true-false, by-bool}
+use Rattle.rack.specs.PlanFile.{plan-cards, plan-links, plan-columns}
+use Rattle.reader.specs.Plan.{layout-holds, plan-refusal}
+use Rattle.reader.specs.Promises.{Refused-address-empty, No-such-card}
 use Rattle.reader.specs.Reading.{layout-refusal, address-part, address-refusal}
-use Rattle.reader.proofs.Promises.{read-measured}
+use Rattle.reader.proofs.Promises.{read-measured, refused-address-empty, no-such-card}
 use Rattle.forwarder.specs.Calls.{step-refusal, walk-refusal}
 use Rattle.opened.specs.Opening.{carries, opened-bytes, Opening-says, Walk-with-arrival}
 use Rattle.opened.specs.Promises.{Sizes-carried, Carries-exactly, Opening-whole, Twelve-in-every-call, Refused-opening, Other-sizes}
-use Rattle.opened.specs.Promises.{Opened-frame-arrives}
+use Rattle.opened.specs.Promises.{Refused-opening-empty, Opened-frame-arrives, Opened-address-own, Opened-address-refused}
 use Rattle.opened.specs.declared.Opened.{Opened}
 use Rattle.opened.proofs.Carrying.{carried-whole, carried-none}
 
@@ -73,13 +76,13 @@ unfolding Other-sizes
 other-sizes p h = carried-twelve p (not-true-false (carried p) (λ t. h (carry-sizes p t .1)))
 
 -- AN OPENING has the bytes and their sizes, or none and 0
-module _ (qs : List ℕ) (p : Opened) (s : Opening-says qs p) where
+module _ (qs : List ℕ) (at : ℕ × ℕ) (p : Opened) (s : Opening-says qs at p) where
   module _ (e : p .number ≡ 0) where
     clear : eqb (plan-refusal qs) 0 ≡ true
     clear = eq-eqb (plan-refusal qs) 0 (sym (s .number) ∙ e)
 
     opened-holds-bytes : now (p .bytes) ≡ qs
-    opened-holds-bytes = s .bytes ∙ rw clear refl
+    opened-holds-bytes = s .bytes .bytes ∙ rw clear refl
 
     opened-sizes : Sizes-carried p
     opened-sizes =
@@ -92,22 +95,56 @@ module _ (qs : List ℕ) (p : Opened) (s : Opening-says qs p) where
     opened-whole : opened-bytes p ≡ qs
     opened-whole = read-whole p (ap plan-refusal opened-holds-bytes ∙ sym (s .number) ∙ e) opened-sizes ∙ opened-holds-bytes
 
-  refused-none : p .number ≢ 0 → now (p .bytes) ≡ []
-  refused-none n = s .bytes ∙ rw (ne-eqb (plan-refusal qs) 0 (λ e. n (s .number ∙ e))) refl
+  module _ (n : p .number ≢ 0) where
+    refused : eqb (plan-refusal qs) 0 ≡ false
+    refused = ne-eqb (plan-refusal qs) 0 (λ e. n (s .number ∙ e))
 
-  refused-carries : p .number ≢ 0 → carried p ≡ false
-  unfolding carries layout-holds
-  refused-carries n = rw (refused-none n) refl
+    refused-none : now (p .bytes) ≡ []
+    refused-none = s .bytes .bytes ∙ rw refused refl
+
+    refused-sizes : (p .cards ≡ 0) × (p .links ≡ 0) × (p .columns ≡ 0)
+    refused-sizes = (s .cards ∙ rw refused refl, s .links ∙ rw refused refl, s .columns ∙ rw refused refl)
+
+    refused-carries : carried p ≡ false
+    unfolding carries layout-holds
+    refused-carries = rw refused-none refl
 
 pub opening-whole : Opening-whole
 unfolding Opening-whole
-opening-whole qs p s e = (opened-holds-bytes qs p s e, opened-whole qs p s e)
+opening-whole qs at p s e = (record { place = s .bytes .place; bytes = opened-holds-bytes qs at p s e }, opened-whole qs at p s e)
+
+pub refused-opening-empty : Refused-opening-empty
+unfolding Refused-opening-empty
+refused-opening-empty qs at p s n = let z = refused-sizes qs at p s n in (refused-none qs at p s n, z .0, z .1, z .2)
 
 pub refused-opening : Refused-opening
 unfolding Refused-opening
-refused-opening qs p s n = carried-twelve p (refused-carries qs p s n)
+refused-opening qs at p s n = carried-twelve p (refused-carries qs at p s n)
 
 pub opened-frame-arrives : Opened-frame-arrives
 unfolding Opened-frame-arrives
 opened-frame-arrives p a b t r old new z f c w =
     subst (λ (qs : List ℕ). Walk-with-arrival qs a b t r old new) (read-whole p (f .read) z) w .arrives f c
+
+-- AN ADDRESS of an opened plan
+pub opened-address-own : Opened-address-own
+unfolding Opened-address-own
+opened-address-own qs at p c r s e z = rw (opened-whole qs at p s e, s .bytes .place) at z
+
+pub opened-address-refused : Opened-address-refused
+unfolding Opened-address-refused Refused-address-empty No-such-card
+opened-address-refused p c = (refused-address-empty (opened-bytes p) c, (outside, no-card))
+  where
+    outside : address-refusal (opened-bytes p) c ≡ 14 → (plan-refusal (ps p) ≡ 0) × Sizes-carried p × (p .cards ≤ c)
+    outside h =
+        by-bool (carried p)
+        (λ (t : carried p ≡ true).
+        let whole = carried-whole (ps p) (p .cards) (p .links) (p .columns) t in
+        let z = no-such-card (ps p) c .0 (ap (λ (xs : List ℕ). address-refusal xs c) (sym whole) ∙ h) in
+        let sizes = carry-sizes p t .1 in
+        (z .0, sizes, omega (arith, z .1, sizes .cards)))
+        (λ (t : carried p ≡ false). absurd (omega (arith, h, carried-twelve p t .address c)))
+
+    no-card : (plan-refusal (ps p) ≡ 0) × Sizes-carried p × (p .cards ≤ c) → address-refusal (opened-bytes p) c ≡ 14
+    no-card (h, sizes, l) =
+        ap (λ (xs : List ℕ). address-refusal xs c) (read-whole p h sizes) ∙ no-such-card (ps p) c .1 (h, omega (arith, sizes .cards))

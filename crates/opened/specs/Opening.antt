@@ -6,9 +6,10 @@ use Prim.Native.Nat.{ℕ}
 use lib.Dec.{eqb}
 use denote.Ref.{now}
 use Rattle.rack.specs.Hops.{hops}
-use Rattle.reader.specs.Plan.{plan-cards, plan-links, plan-columns, plan-wiring, layout-holds, plan-refusal}
+use Rattle.rack.specs.PlanFile.{plan-cards, plan-links, plan-columns, plan-wiring}
+use Rattle.reader.specs.Plan.{layout-holds, plan-refusal}
 use Rattle.reader.specs.Promises.{Measured}
-use Rattle.reader.specs.Reading.{Read-says}
+use Rattle.reader.specs.Reading.{Slice-is, Read-says}
 use Rattle.reader.specs.declared.layout.Sizes.{Sizes}
 use Rattle.forwarder.specs.Calls.{Walk-says, Frame, Arrived, Full, Can-take}
 use Rattle.forwarder.specs.declared.walk.Traffic.{Traffic}
@@ -26,13 +27,14 @@ carried-bytes ps n m k = cond (carries ps n m k) ps []
 abbrev pub opened-bytes : Opened → List ℕ
 opened-bytes p = carried-bytes (now (p .bytes)) (p .cards) (p .links) (p .columns)
 
--- opening: 12, 13, no bytes and sizes 0, or the bytes themselves with their sizes
-pub record Opening-says (ps : List ℕ) (r : Opened) : Type 0 where
-  pub number : r .number ≡ plan-refusal ps
-  pub bytes : now (r .bytes) ≡ cond (eqb (plan-refusal ps) 0) ps []
-  pub cards : r .cards ≡ cond (eqb (plan-refusal ps) 0) (plan-cards ps) 0
-  pub links : r .links ≡ cond (eqb (plan-refusal ps) 0) (plan-links ps) 0
-  pub columns : r .columns ≡ cond (eqb (plan-refusal ps) 0) (plan-columns ps) 0
+-- opening a plan that begins at this place: 12, 13, no bytes and sizes 0, or the plan's own bytes with their sizes and the promise
+pub record Opening-says (ps : List ℕ) (at : ℕ × ℕ) (p : Opened) : Type 0 where
+  pub number : p .number ≡ plan-refusal ps
+  pub bytes : Slice-is at (cond (eqb (plan-refusal ps) 0) ps []) (p .bytes)
+  pub cards : p .cards ≡ cond (eqb (plan-refusal ps) 0) (plan-cards ps) 0
+  pub links : p .links ≡ cond (eqb (plan-refusal ps) 0) (plan-links ps) 0
+  pub columns : p .columns ≡ cond (eqb (plan-refusal ps) 0) (plan-columns ps) 0
+  pub promise : p .number ≡ 0 → Measured ps
 
 -- reading, with the promise that forwarding leans on
 pub record Read-with-promise (ps : List ℕ) (r : Sizes) : Type 0 where

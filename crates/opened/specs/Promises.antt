@@ -3,11 +3,12 @@ use mathlib.Core.Path.{_≡_}
 use mathlib.Core.Bool.{true}
 use mathlib.Core.List.{List, []}
 use mathlib.Core.Logic.{_↔_, _≢_}
-use Prim.Native.Nat.{ℕ}
-use denote.Ref.{now}
+use Prim.Native.Nat.{ℕ, _≤_}
+use denote.Ref.{RefT, now}
 use Rattle.rack.specs.Hops.{hops}
-use Rattle.reader.specs.Plan.{plan-cards, plan-links, plan-columns, plan-wiring, layout-holds, plan-refusal}
-use Rattle.reader.specs.Reading.{address-part, address-refusal}
+use Rattle.rack.specs.PlanFile.{plan-cards, plan-links, plan-columns, plan-wiring}
+use Rattle.reader.specs.Plan.{layout-holds, plan-refusal}
+use Rattle.reader.specs.Reading.{address-part, address-refusal, Slice-is, Address-says}
 use Rattle.forwarder.specs.Calls.{step-refusal, walk-refusal, Frame, Arrived, Can-take}
 use Rattle.forwarder.specs.declared.walk.Traffic.{Traffic}
 use Rattle.forwarder.specs.declared.walk.Walked.{Walked}
@@ -25,9 +26,15 @@ unfoldable pub Carries-exactly : Type 0
 Carries-exactly =
     (p : Opened) → (carries (now (p .bytes)) (p .cards) (p .links) (p .columns) ≡ true) ↔ ((layout-holds (now (p .bytes)) ≡ true) × Sizes-carried p)
 
--- an opening that was not refused carries its bytes, and each call sees them
+-- an opening that was not refused carries the plan's own bytes, and each call sees them
 unfoldable pub Opening-whole : Type 0
-Opening-whole = (ps : List ℕ) (p : Opened) → Opening-says ps p → p .number ≡ 0 → (now (p .bytes) ≡ ps) × (opened-bytes p ≡ ps)
+Opening-whole = (ps : List ℕ) (at : ℕ × ℕ) (p : Opened) → Opening-says ps at p → p .number ≡ 0 → Slice-is at ps (p .bytes) × (opened-bytes p ≡ ps)
+
+-- "A refused opening has its number, no bytes and sizes 0"
+unfoldable pub Refused-opening-empty : Type 0
+Refused-opening-empty =
+    (ps : List ℕ) (at : ℕ × ℕ) (p : Opened) → Opening-says ps at p → p .number ≢ 0 →
+    (now (p .bytes) ≡ []) × (p .cards ≡ 0) × (p .links ≡ 0) × (p .columns ≡ 0)
 
 -- 12 in every call on these bytes, and no part of them for an address
 pub record Twelve-in-every-call (ps : List ℕ) : Type 0 where
@@ -39,7 +46,7 @@ pub record Twelve-in-every-call (ps : List ℕ) : Type 0 where
 
 -- a refused opening, and sizes that differ from those in the bytes
 unfoldable pub Refused-opening : Type 0
-Refused-opening = (ps : List ℕ) (p : Opened) → Opening-says ps p → p .number ≢ 0 → Twelve-in-every-call (opened-bytes p)
+Refused-opening = (ps : List ℕ) (at : ℕ × ℕ) (p : Opened) → Opening-says ps at p → p .number ≢ 0 → Twelve-in-every-call (opened-bytes p)
 
 unfoldable pub Other-sizes : Type 0
 Other-sizes = (p : Opened) → (Sizes-carried p → ⊥) → Twelve-in-every-call (opened-bytes p)
@@ -50,3 +57,16 @@ Opened-frame-arrives =
     (p : Opened) (a b : ℕ) (t : Traffic) (r : Walked) (old new : List ℕ) →
     Sizes-carried p → Frame (now (p .bytes)) a b old → Can-take t (hops (plan-wiring (now (p .bytes))) a b) →
     Walk-with-arrival (opened-bytes p) a b t r old new → Arrived (now (p .bytes)) a b t r new
+
+-- "A card's address is handed out as that part of the plan's own bytes": of those of the plan that was opened
+unfoldable pub Opened-address-own : Type 0
+Opened-address-own =
+    (ps : List ℕ) (at : ℕ × ℕ) (p : Opened) (c : ℕ) (r : RefT (List ℕ)) → Opening-says ps at p → p .number ≡ 0 →
+    Address-says (opened-bytes p) (p .bytes .ptr) c r → Address-says ps at c r
+
+-- a refused address is empty; 14 is said exactly of bytes that are read, with the sizes carried in them, and a card number that is n or more
+unfoldable pub Opened-address-refused : Type 0
+Opened-address-refused =
+    (p : Opened) (c : ℕ) →
+    (address-refusal (opened-bytes p) c ≢ 0 → address-part (opened-bytes p) c ≡ [])
+    × ((address-refusal (opened-bytes p) c ≡ 14) ↔ ((plan-refusal (now (p .bytes)) ≡ 0) × Sizes-carried p × (p .cards ≤ c)))

@@ -4,7 +4,7 @@ ghost use mathlib.Core.Path.{_≡_};
 ghost use mathlib.Core.Bool.{cond};
 ghost use mathlib.Core.List.{[]};
 ghost use lib.Dec.{eqb};
-ghost use Rattle.reader.specs.Reading.{address-part, address-refusal};
+ghost use Rattle.reader.specs.Reading.{Slice-is, Address-says, address-refusal};
 ghost use Rattle.forwarder.specs.Calls.{Step-says};
 ghost use Rattle.opened.specs.Opening.{carries, carried-bytes, Read-with-promise, Walk-with-arrival};
 use forwarder::step::Stepped;
@@ -17,9 +17,9 @@ use reader::layout::plan_layout;
 use reader::read::card_address;
 use reader::read::read_plan;
 
-// The bytes, or with a refusal none of them.
+// The bytes themselves, or with a refusal none of them.
 pub fn bytes_unless<'a>(bytes: &'a [u8], number: u32) -> &'a [u8]
-    ensures { λ r. ⌜ now r ≡ cond (eqb number 0) (now (bytes .entry)) [] ⌝ }
+    ensures { λ r. ⌜ Slice-is (bytes .entry .ptr) (cond (eqb number 0) (now (bytes .entry)) []) r ⌝ }
 {
     if number != 0 {
         return &bytes[0..0];
@@ -44,9 +44,9 @@ fn carries(bytes: &[u8], cards: u32, links: u32, columns: u32) -> bool
     columns == sizes.columns
 }
 
-// What a call sees: the bytes, or none of them where the sizes are not those in them.
+// What a call sees: the bytes themselves, or none of them where the sizes are not those in them.
 fn carried_bytes<'a>(bytes: &'a [u8], cards: u32, links: u32, columns: u32) -> &'a [u8]
-    ensures { λ r. ⌜ now r ≡ carried-bytes (now (bytes .entry)) cards links columns ⌝ }
+    ensures { λ r. ⌜ Slice-is (bytes .entry .ptr) (carried-bytes (now (bytes .entry)) cards links columns) r ⌝ }
 {
     if carries(bytes, cards, links, columns) {
         return bytes;
@@ -69,7 +69,7 @@ pub fn address_carried<'a>(
     columns: u32,
     card: u32,
 ) -> &'a [u8]
-    ensures { λ r. ⌜ now r ≡ address-part (carried-bytes (now (bytes .entry)) cards links columns) card ⌝ }
+    ensures { λ r. ⌜ Address-says (carried-bytes (now (bytes .entry)) cards links columns) (bytes .entry .ptr) card r ⌝ }
 {
     let mut number: u32 = 0;
     card_address(

@@ -1,6 +1,6 @@
 // An opened plan: the plan's own bytes with their three sizes. Its methods hand them to the calls of `carried`.
 ghost use mathlib.Core.Path.{_≡_};
-ghost use Rattle.reader.specs.Reading.{address-part, address-refusal};
+ghost use Rattle.reader.specs.Reading.{Address-says, address-refusal};
 ghost use Rattle.forwarder.specs.Calls.{Step-says};
 ghost use Rattle.opened.specs.Opening.{Opening-says, Read-with-promise, Walk-with-arrival, opened-bytes};
 use crate::carried::address_carried;
@@ -28,7 +28,7 @@ pub struct Opened<'a> {
 
 // Opens a plan: 12, 13.
 pub fn open_plan<'a>(bytes: &'a [u8]) -> Opened<'a>
-    ensures { λ r. ⌜ Opening-says (now (bytes .entry)) r ⌝ }
+    ensures { λ r. ⌜ Opening-says (now (bytes .entry)) (bytes .entry .ptr) r ⌝ }
 {
     let sizes = read_plan(bytes);
     let part = bytes_unless(bytes, sizes.number);
@@ -51,7 +51,7 @@ impl<'a> Opened<'a> {
 
     // A card's address, as that part of the plan's own bytes; empty with a refusal, whose number is `address_refusal`.
     pub fn address(self, card: u32) -> &'a [u8]
-        ensures { λ r. ⌜ now r ≡ address-part (opened-bytes (self .entry)) card ⌝ }
+        ensures { λ r. ⌜ Address-says (opened-bytes (self .entry)) (self .entry .bytes .ptr) card r ⌝ }
     {
         address_carried(self.bytes, self.cards, self.links, self.columns, card)
     }

@@ -14,10 +14,10 @@ use Rattle.rack.specs.Columns.{hamming}
 use Rattle.rack.proofs.Logic.{true-not-false, not-true-false, by-lt}
 use Rattle.rack.proofs.Lists.{any-in, in-any, count-none, none-count}
 use Rattle.rack.proofs.Bits.{bits-value-number, bits-value-few}
-use Rattle.rack.proofs.Hamming.{hamming-ext, hamming-add, hamming-same}
+use Rattle.rack.proofs.Hamming.{hamming-none, hamming-ext, hamming-add, hamming-same}
 use Rattle.rack.proofs.Columns.{hamming-count}
 use Rattle.planner.specs.Words.{word-bit}
-use Rattle.planner.specs.Opening.{bit-in, separated, Words-of, words-hamming}
+use Rattle.planner.specs.Opening.{bit-in, separated, Words-of, part-hamming, words-hamming}
 
 -- THE FOUR WORDS of two cards
 part-bit : (ws : List ℕ) (c t i : ℕ) → i < 64 → word-bit ws c (64 * t + i) ≡ number-bit (getD ws (4 * c + t) 0) i
@@ -27,11 +27,8 @@ part-bit ws c t i h =
     let m : (64 * t + i) % 64 ≡ i = omega arith in
     rw (d, m)
 
-abbrev part-hamming : (ws : List ℕ) (i j : ℕ) → ℕ
-part-hamming ws i j = hamming 64 (number-bit (getD ws i 0)) (number-bit (getD ws j 0))
-
 hamming-part : (ws : List ℕ) (a b t : ℕ)
-    → hamming (64 * t + 64) (word-bit ws a) (word-bit ws b) ≡ hamming (64 * t) (word-bit ws a) (word-bit ws b) + part-hamming ws (4 * a + t) (4 * b + t)
+    → hamming (64 * t + 64) (word-bit ws a) (word-bit ws b) ≡ hamming (64 * t) (word-bit ws a) (word-bit ws b) + part-hamming ws a b t
 hamming-part ws a b t =
     hamming-add (64 * t) 64 (word-bit ws a) (word-bit ws b)
     ∙ ap (λ (x : ℕ). hamming (64 * t) (word-bit ws a) (word-bit ws b) + x)
@@ -39,14 +36,17 @@ hamming-part ws a b t =
     (number-bit (getD ws (4 * b + t) 0)) (part-bit ws a t) (part-bit ws b t))
 
 pub words-hamming-parts : (ws : List ℕ) (a b : ℕ)
-    → words-hamming ws a b ≡ part-hamming ws (4 * a) (4 * b) + part-hamming ws (4 * a + 1) (4 * b + 1) + part-hamming ws (4 * a + 2)
-    (4 * b + 2) + part-hamming ws (4 * a + 3) (4 * b + 3)
+    → words-hamming ws a b ≡ part-hamming ws a b 0 + part-hamming ws a b 1 + part-hamming ws a b 2 + part-hamming ws a b 3
 unfolding words-hamming
 words-hamming-parts ws a b =
-    let ea : 4 * a + 0 ≡ 4 * a = omega arith in
-    let eb : 4 * b + 0 ≡ 4 * b = omega arith in
-    let first = rw (ea, eb) at (hamming-part ws a b 0) in
-    omega (arith, hamming-same 0 (word-bit ws a) (word-bit ws b) (λ j l. absurd (omega arith)), hamming-part ws a b 1, hamming-part ws a b 2, hamming-part ws a b 3)
+    omega (
+      arith,
+      hamming-none (word-bit ws a) (word-bit ws b),
+      hamming-part ws a b 0,
+      hamming-part ws a b 1,
+      hamming-part ws a b 2,
+      hamming-part ws a b 3,
+    )
 
 -- BITS IN COLUMNS: none past the last, and those of one column more
 pub bit-past : (cs : List (List Bool)) (c j : ℕ) → length cs ≤ j → bit-in cs c j ≡ false

@@ -16,7 +16,7 @@ use Rattle.rack.proofs.Acceptance.{connected-refusal}
 use Rattle.survey.specs.Tables.{Hops-in}
 use Rattle.planner.specs.Opening.{Words-of}
 use Rattle.planner.specs.Stages.{Planned-as}
-use Rattle.planner.specs.Planning.{lent-words, lent-hops}
+use Rattle.rack.specs.Limits.{lent-words, lent-hops}
 use Rattle.planner.specs.declared.Answer.{Answer}
 
 -- A FILE's refusal is its sizes', its links' or its rack's

@@ -8,6 +8,9 @@ pub mod Contents
 pub mod Answers
 pub mod RackPlanned
 pub mod PlanAnswer
+pub mod Found
 pub mod PlanPromise
-pub mod Appending
+pub mod WrittenPlan
 pub mod WriteAnswer
+pub mod WritePromise
+pub mod Promises

@@ -8,15 +8,17 @@ use native.Mathlib.Omega.{arith}
 use lib.Dec.{eqb}
 use lib.ListN.{length, replicate}
 use borrow.Author.Tests.{eq-eqb, ne-eqb}
+use Rattle.rack.specs.Wiring.{link-count}
 use Rattle.rack.specs.Hops.{hops}
 use Rattle.rack.specs.Columns.{column-count}
 use Rattle.rack.specs.WiringFile.{file-wiring, file-refusal}
 use Rattle.rack.proofs.Logic.{by-eq}
-use Rattle.rack.proofs.Accepted.{file-clear}
-use Rattle.rack.proofs.WiringFile.{wiring-at-cards}
+use Rattle.rack.proofs.Accepted.{wiring-accepted, file-clear}
+use Rattle.rack.proofs.WiringFile.{wiring-at-cards, wiring-at-count}
 use Rattle.rack.proofs.Numbers.{file-numbers}
 use Rattle.planner.specs.Stages.{File-planned}
-use Rattle.planner.specs.Planning.{lent-words, lent-hops, all-words, all-hops, left-in, Answer-is, planning-refusal, Plan-says}
+use Rattle.rack.specs.Limits.{lent-words, lent-hops}
+use Rattle.planner.specs.Planning.{all-words, all-hops, left-in, Answer-is, planning-refusal, Plan-says}
 use Rattle.planner.specs.declared.Answer.{Answer}
 use Rattle.planner.proofs.Contents.{words-list, hops-list}
 
@@ -44,6 +46,14 @@ answer-value n v k h z = by-eq n 0 (λ e. h e ∙ sym (rw (eq-eqb n 0 e) refl)) 
 pub accepted-few : (bs : List ℕ) → file-refusal bs .number ≡ 0 → file-wiring bs .cards ≤ 256
 accepted-few bs h = omega (arith, file-clear bs h .0 .cards, wiring-at-cards 4 bs)
 
+pub accepted-columns : (bs : List ℕ) → file-refusal bs .number ≡ 0 → column-count (file-wiring bs) ≤ 255
+accepted-columns bs h =
+    let c = file-clear bs h in
+    omega (arith, wiring-accepted (file-wiring bs) (omega (arith, c .0 .some, wiring-at-cards 4 bs)) (c .1) .few, accepted-few bs h)
+
+pub accepted-links : (bs : List ℕ) → file-refusal bs .number ≡ 0 → link-count (file-wiring bs) ≤ 2048
+accepted-links bs h = omega (arith, file-clear bs h .0 .links, wiring-at-count 4 bs)
+
 -- PLANNING in buffers of another length
 pub plan-says-one : (bs : List ℕ) (r : Answer) (ws h : List ℕ) → (eqb (length ws) lent-words && eqb (length h) lent-hops) ≡ false → r .number ≡ 1 → r .at ≡ 0 → r .value ≡ 0
     → Plan-says bs r ws ws h h
@@ -51,8 +61,8 @@ unfolding planning-refusal
 plan-says-one bs r ws h t n a v =
     record {
       answer = record { number = rw t n; at = rw t a; value = rw t v };
-      words-left = rw n (sym (left-untouched (all-words (file-wiring bs)) ws));
-      hops-left = rw n (sym (left-untouched (all-hops (file-wiring bs)) h));
+      words-left = rw n (sym (left-untouched _ ws));
+      hops-left = rw n (sym (left-untouched _ h));
     }
 
 -- PLANNING in buffers of their lengths

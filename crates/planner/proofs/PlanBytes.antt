@@ -1,19 +1,23 @@
 -- The plan bytes of a wiring by their places: sizes, the wiring, and the bits of the addresses. Assumes nothing.
-use mathlib.Core.Path.{_≡_, _∙_}
+use mathlib.Core.Path.{_≡_, refl, sym, ap, _∙_}
 use mathlib.Core.Bool.{Bool}
 use mathlib.Core.List.{List, _++_}
-use Prim.Native.Nat.{ℕ, _+_, _*_, _/_, _<_}
+use Prim.Native.Nat.{ℕ, _+_, _*_, _/_, _%_, _<_}
+use native.Mathlib.Nat.{suc-mul, mul-le-mul-right}
 use native.Mathlib.Omega.{arith}
-use lib.ListN.{length, getD, length-append}
+use lib.ListN.{length, getD, length-append, List·getD-append}
 use lib.Seq.{getD-append-add}
 use Rattle.rack.specs.Lists.{blocks}
-use Rattle.rack.specs.Bits.{bits-value}
+use Rattle.rack.specs.Bits.{number-bit, bits-value}
 use Rattle.rack.specs.Wiring.{Wiring, link-count}
-use Rattle.rack.specs.WiringFile.{number-at, two-bytes, end-bytes, wiring-at}
+use Rattle.rack.specs.Buffers.{number-at, two-bytes}
+use Rattle.rack.specs.WiringFile.{end-bytes, wiring-at}
 use Rattle.rack.specs.Columns.{column-count, address}
 use Rattle.rack.proofs.Tables.{length-tabulate, getD-tabulate, length-blocks, getD-blocks}
-use Rattle.rack.proofs.WiringFile.{Fits, length-two-bytes, two-bytes-value, length-end-bytes, wiring-at-written}
-use Rattle.planner.specs.PlanBytes.{address-size, address-bytes, plan-bytes}
+use Rattle.rack.proofs.WiringFile.{Fits, length-two-bytes, two-bytes-value, length-end-bytes, wiring-at-written, number-at-left}
+use Rattle.rack.specs.PlanFile.{address-size, plan-links, plan-columns, plan-bit}
+use Rattle.planner.specs.PlanBytes.{address-bytes, plan-bytes}
+use Rattle.rack.proofs.Bits.{bits-value-number}
 
 -- ADDRESSES
 pub bit-inside : (k j : ℕ) → j < k → j / 8 < address-size k
@@ -72,3 +76,36 @@ module _ (w : Wiring) where
       (getD-append-add (head ++ end-bytes w) addresses (c * address-size (column-count w) + t) 0
       ∙ getD-blocks (w .cards) (address-size (column-count w)) _ (λ c. length-address-bytes (column-count w) (address w c)) c t 0 hc ht
       ∙ address-byte (column-count w) (address w c) t ht)
+
+  module _ (links-fit : link-count w < 65536) (columns-fit : column-count w < 65536) where
+    -- its bits are the addresses'
+    pub written-bit : (c j : ℕ) → c < w .cards → j < column-count w → plan-bit (plan-bytes w) c j ≡ address w c j
+    unfolding plan-bit
+    written-bit c j hc hj =
+        let e : 8 * (j / 8) + j % 8 ≡ j = omega arith in
+        rw (
+          written-links links-fit,
+          written-columns columns-fit,
+          written-byte c (j / 8) hc (bit-inside (column-count w) j hj),
+          bits-value-number 8 (λ i. address w c (8 * (j / 8) + i)) (j % 8) (omega arith),
+          e,
+        )
+        refl
+
+    -- and so they are with more bytes behind it
+    module _ (rest : List ℕ) where
+      pub columns-in-front : plan-columns (plan-bytes w ++ rest) ≡ column-count w
+      columns-in-front = number-at-left (plan-bytes w) rest 4 (omega (arith, length-plan)) ∙ written-columns columns-fit
+
+      links-in-front : plan-links (plan-bytes w ++ rest) ≡ link-count w
+      links-in-front = number-at-left (plan-bytes w) rest 2 (omega (arith, length-plan)) ∙ written-links links-fit
+
+      pub bit-in-front : (c j : ℕ) → c < w .cards → j < column-count w → plan-bit (plan-bytes w ++ rest) c j ≡ address w c j
+      unfolding plan-bit
+      bit-in-front c j hc hj =
+          let size = address-size (column-count w) in
+          let at = 6 + 4 * link-count w + c * size + j / 8 in
+          let l : at < length (plan-bytes w) =
+          omega (arith, length-plan, bit-inside (column-count w) j hj, suc-mul c size, mul-le-mul-right size hc) in
+          rw (links-in-front, columns-in-front) (ap (λ (x : ℕ). number-bit x (j % 8)) (List·getD-append (plan-bytes w) rest 0 at l)
+          ∙ sym (rw (written-links links-fit, written-columns columns-fit) refl) ∙ written-bit c j hc hj)

@@ -10,13 +10,14 @@ use Rattle.rack.specs.Wiring.{Wiring}
 use Rattle.rack.specs.Hops.{connected}
 use Rattle.rack.specs.Columns.{columns}
 use Rattle.rack.specs.Refusals.{Refusal, refusal, links-refusal, reach-refusal, parity-refusal, rack-refusal}
-use Rattle.rack.specs.WiringFile.{number-at, file-wiring, sizes-fault, file-refusal}
+use Rattle.rack.specs.Buffers.{number-at}
+use Rattle.rack.specs.WiringFile.{file-wiring, sizes-fault, file-refusal}
 use Rattle.rack.proofs.Acceptance.{reach-clear}
 use Rattle.survey.specs.Formed.{Fault-is, Formed}
 use Rattle.survey.specs.Tables.{Hops-in}
 use Rattle.planner.specs.Opening.{Words-of}
 use Rattle.planner.specs.Stages.{Addressed, Rack-planned, File-planned}
-use Rattle.planner.specs.Planning.{lent-words, lent-hops}
+use Rattle.rack.specs.Limits.{lent-words, lent-hops}
 use Rattle.survey.specs.declared.links.Fault.{Fault}
 use Rattle.planner.specs.declared.Answer.{Answer}
 use Rattle.survey.proofs.Forms.{sizes-are, formed}

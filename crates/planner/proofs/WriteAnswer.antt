@@ -11,22 +11,25 @@ use Rattle.rack.specs.Bits.{bits-value}
 use Rattle.rack.specs.Wiring.{Link, Wiring, link-at}
 use Rattle.rack.specs.Columns.{columns, column-count, address}
 use Rattle.rack.specs.Refusals.{Refusal, links-refusal, rack-refusal, wiring-refusal}
-use Rattle.rack.specs.WiringFile.{number-at, file-wiring, file-refusal, two-bytes, end-bytes}
+use Rattle.rack.specs.Buffers.{number-at, two-bytes, Written}
+use Rattle.rack.specs.WiringFile.{file-wiring, file-refusal, end-bytes}
 use Rattle.rack.proofs.Tables.{tabulate-ext, blocks-ext, blocks-add}
 use Rattle.rack.proofs.Bits.{bits-value-ext, bits-value-part}
 use Rattle.rack.proofs.Refusals.{or-else-clear}
 use Rattle.rack.proofs.Acceptance.{embedding-accepted}
 use Rattle.rack.proofs.Accepted.{wiring-accepted, file-clear}
 use Rattle.rack.proofs.WiringFile.{sized-clear, wiring-at-cards, wiring-at-count, wiring-at-link}
-use Rattle.planner.specs.PlanBytes.{address-size, address-bytes, plan-bytes}
+use Rattle.rack.specs.PlanFile.{address-size}
+use Rattle.planner.specs.PlanBytes.{address-bytes, plan-bytes}
 use Rattle.survey.specs.Formed.{Sizes-are}
 use Rattle.planner.specs.Opening.{bit-in, Words-of}
 use Rattle.planner.specs.Stages.{File-planned}
-use Rattle.planner.specs.Planning.{lent-plan, writing-refusal, Write-says}
-use Rattle.planner.specs.Writing.{Written, end-pair, word-byte, written-bytes}
+use Rattle.rack.specs.Limits.{lent-plan}
+use Rattle.planner.specs.Planning.{writing-refusal, Write-says}
+use Rattle.planner.specs.Writing.{end-pair, word-byte, written-bytes}
 use Rattle.planner.specs.declared.Answer.{Answer}
 use Rattle.planner.proofs.Answers.{refusal-of-rack}
-use Rattle.planner.proofs.PlanAnswer.{file-not-one, left-untouched, left-filled, left-zero}
+use Rattle.planner.proofs.PlanAnswer.{file-not-one, left-untouched, left-filled, left-zero, accepted-columns}
 
 -- THE ENDS
 ends-written : (bs : List ℕ) → blocks (2 * number-at bs 2) (end-pair bs) ≡ end-bytes (file-wiring bs)
@@ -121,10 +124,7 @@ module _ (bs : List ℕ) (r : Answer) (ws h o : List ℕ) (lo : length o ≡ len
         }
 
     pub columns-few : r .value ≤ 255
-    columns-few =
-        let c = file-clear bs accepted in
-        let a = wiring-accepted (file-wiring bs) (omega (arith, c .0 .some, wiring-at-cards 4 bs)) (c .1) in
-        omega (arith, p .value z, a .few, c .0 .cards, wiring-at-cards 4 bs)
+    columns-few = omega (arith, p .value z, accepted-columns bs accepted)
 
     pub write-says-found : (out : List ℕ) (v : ℕ) → length out ≡ length o → Written out (written-bytes bs ws (r .value)) → v ≡ length (written-bytes bs ws (r .value))
         → Write-says bs (record { number = 0; at = 0; value = v }) o out

@@ -4,3 +4,4 @@ pub mod Opening
 pub mod Stages
 pub mod Planning
 pub mod Writing
+pub mod Promises

@@ -6,8 +6,9 @@ use mathlib.Core.List.{List, [], _∷_, _++_}
 use Prim.Native.Nat.{ℕ, _+_, _*_, _/_, _%_, _^_, _≤_, _<_}
 use lib.Dec.{ltb}
 use lib.ListN.{length, getD, take}
+use Rattle.rack.specs.Limits.{lent-words}
 use Rattle.rack.specs.Lists.{differ, one, any}
-use Rattle.rack.specs.Bits.{bits-value}
+use Rattle.rack.specs.Bits.{number-bit, bits-value}
 use Rattle.rack.specs.Wiring.{Link, Wiring}
 use Rattle.rack.specs.Columns.{column, hamming}
 use Rattle.survey.specs.Tables.{cell}
@@ -34,7 +35,7 @@ opened w i = open-columns w (take i (w .links)) []
 
 -- the words hold the bits of n cards in these columns, and 0 elsewhere
 pub record Words-of (cs : List (List Bool)) (n : ℕ) (ws : List ℕ) : Type 0 where
-  pub long : length ws ≡ 1024
+  pub long : length ws ≡ lent-words
   pub is : (c t : ℕ) → c < n → t < 4 → getD ws (4 * c + t) 0 ≡ bits-value 64 (λ i. bit-in cs c (64 * t + i))
   pub rest : (j : ℕ) → 4 * n ≤ j → getD ws j 0 ≡ 0
 
@@ -56,7 +57,10 @@ pub record Column-added (h old new : List ℕ) (p q k upto : ℕ) : Type 0 where
   pub other : (c t : ℕ) → t < 4 → t ≢ k / 64 → getD new (4 * c + t) 0 ≡ getD old (4 * c + t) 0
   pub after : (j : ℕ) → 4 * upto ≤ j → getD new j 0 ≡ getD old j 0
 
--- the differing places of two cards' words
+-- the differing places of words t of two cards, and of all their words
+abbrev pub part-hamming : List ℕ → (a b t : ℕ) → ℕ
+part-hamming ws a b t = hamming 64 (number-bit (getD ws (4 * a + t) 0)) (number-bit (getD ws (4 * b + t) 0))
+
 unfoldable pub words-hamming : List ℕ → (a b : ℕ) → ℕ
 words-hamming ws a b = hamming 256 (word-bit ws a) (word-bit ws b)
 

@@ -1,16 +1,14 @@
 -- The plan file that the planner writes for a wiring. Assumes nothing: these are definitions.
 use mathlib.Core.Bool.{Bool}
 use mathlib.Core.List.{List, _++_}
-use Prim.Native.Nat.{ℕ, _+_, _*_, _/_}
+use Prim.Native.Nat.{ℕ, _+_, _*_}
 use Rattle.rack.specs.Lists.{tabulate, blocks}
 use Rattle.rack.specs.Bits.{bits-value}
 use Rattle.rack.specs.Wiring.{Wiring, link-count}
-use Rattle.rack.specs.WiringFile.{two-bytes, end-bytes}
+use Rattle.rack.specs.Buffers.{two-bytes}
+use Rattle.rack.specs.WiringFile.{end-bytes}
 use Rattle.rack.specs.Columns.{column-count, address}
-
--- B, the bytes of an address of k columns
-unfoldable pub address-size : (k : ℕ) → ℕ
-address-size k = (k + 7) / 8
+use Rattle.rack.specs.PlanFile.{address-size}
 
 -- column j is bit j mod 8 of byte j / 8
 unfoldable pub address-bytes : (k : ℕ) → (row : ℕ → Bool) → List ℕ

@@ -3,31 +3,23 @@ use mathlib.Core.Path.{_≡_}
 use mathlib.Core.Bool.{Bool, true, _&&_, cond}
 use mathlib.Core.Logic.{_⊎_, _↔_}
 use mathlib.Core.List.{List, _++_}
-use Prim.Native.Nat.{ℕ, _+_, _*_, _-_, _<_}
+use Prim.Native.Nat.{ℕ, _+_, _*_, _-_, _≤_, _<_}
 use lib.Dec.{ltb, eqb}
 use lib.ListN.{length, replicate}
 use Rattle.rack.specs.Lists.{tabulate, blocks}
 use Rattle.rack.specs.Bits.{bits-value}
+use Rattle.rack.specs.Limits.{lent-words, lent-hops, lent-plan}
 use Rattle.rack.specs.Wiring.{Wiring}
 use Rattle.rack.specs.Hops.{hops, connected}
 use Rattle.rack.specs.Columns.{column-count, address, Embedding}
 use Rattle.rack.specs.Refusals.{Refusal, refusal}
 use Rattle.rack.specs.WiringFile.{file-wiring, form-refusal, file-refusal}
-use Rattle.rack.specs.Embeddings.{reduced-columns, times}
+use Rattle.rack.specs.Embeddings.{column-of, reduced-columns, times}
 use Rattle.planner.specs.PlanBytes.{plan-bytes}
+use Rattle.rack.specs.PlanFile.{plan-columns, plan-bit}
 use Rattle.survey.specs.Tables.{cell}
 use Rattle.planner.specs.Words.{word-bit}
 use Rattle.planner.specs.declared.Answer.{Answer}
-
--- the lengths of the lent buffers: words, hops, plan
-abbrev pub lent-words : ℕ
-lent-words = 1024
-
-abbrev pub lent-hops : ℕ
-lent-hops = 65536
-
-abbrev pub lent-plan : ℕ
-lent-plan = 16390
 
 -- four words a card; column j is bit j mod 64 of word j / 64
 unfoldable pub card-words : (row : ℕ → Bool) → List ℕ
@@ -68,17 +60,38 @@ pub record Write-says (bs : List ℕ) (r : Answer) (output output-now : List ℕ
   pub answer : Answer-is (writing-refusal bs (length output)) (length (plan-bytes (file-wiring bs))) r
   pub output-left : output-now ≡ left-in (r .number) (plan-bytes (file-wiring bs)) output
 
--- demand 3 of what planning answers and leaves, for a well-formed, connected wiring and lent buffers of their lengths
+-- when demand 3 speaks of planning, and of plan writing: a well-formed, connected wiring, and lent buffers of their lengths
 pub record Asked (bs words hop-bytes : List ℕ) : Type 0 where
   pub room : length words ≡ lent-words
   pub hop-room : length hop-bytes ≡ lent-hops
+  -- none of 2 to 8 applies
   pub formed : form-refusal bs .number ≡ 0
   pub whole : connected (file-wiring bs) ≡ true
 
--- 10 or 11 exactly if there is no embedding; else the words hold one, the bytes hold the hops, and every embedding has its columns
+pub record Asked-to-write (bs output : List ℕ) : Type 0 where
+  pub room : length output ≡ lent-plan
+  -- as in `Asked`
+  pub formed : form-refusal bs .number ≡ 0
+  pub whole : connected (file-wiring bs) ≡ true
+
+-- what is left of l columns, without those in which all cards agree and complemented where card 0 has 1, are "the planner's k columns in
+-- some order, each once and no other"
+pub record Reduces-to (n l : ℕ) (others : ℕ → ℕ → Bool) (k : ℕ) (rows : ℕ → ℕ → Bool) : Type 0 where
+  pub count : length (reduced-columns n l others) ≡ k
+  pub same : (c : List Bool) → times c (reduced-columns n l others) ≡ times c (tabulate k (column-of n rows))
+  pub once : (c : List Bool) → times c (tabulate k (column-of n rows)) ≤ 1
+
+-- 10 or 11 exactly if there is no embedding; with 0 the k columns are one, and every embedding reduces to them
+pub record Found (w : Wiring) (number k : ℕ) (rows : ℕ → ℕ → Bool) : Type 0 where
+  pub none : ((number ≡ 10) ⊎ (number ≡ 11)) ↔ ((l : ℕ) (others : ℕ → ℕ → Bool) → Embedding w l others → ⊥)
+  pub embedding : number ≡ 0 → Embedding w k rows
+  pub unique : (l : ℕ) (others : ℕ → ℕ → Bool) → Embedding w l others → (number ≡ 0) × Reduces-to (w .cards) l others k rows
+
+-- what planning has found, read from the lent words; the lent bytes hold the hops
 pub record Addresses-found (w : Wiring) (r : Answer) (words hop-bytes : List ℕ) : Type 0 where
-  pub none : ((r .number ≡ 10) ⊎ (r .number ≡ 11)) ↔ ((k : ℕ) (rows : ℕ → ℕ → Bool) → Embedding w k rows → ⊥)
-  pub embedding : r .number ≡ 0 → Embedding w (r .value) (word-bit words)
+  pub addresses : Found w (r .number) (r .value) (word-bit words)
   pub measured : r .number ≡ 0 → (a b : ℕ) → a < w .cards → b < w .cards → cell hop-bytes a b ≡ hops w a b
-  pub unique : (k : ℕ) (rows : ℕ → ℕ → Bool) → Embedding w k rows →
-      (r .number ≡ 0) × ((c : List Bool) → times c (reduced-columns (w .cards) k rows) ≡ times c (reduced-columns (w .cards) (r .value) (word-bit words)))
+
+-- what plan writing has found, read back from the bytes of the plan
+abbrev pub Plan-found : Wiring → Answer → (plan : List ℕ) → Type 0
+Plan-found w r plan = Found w (r .number) (plan-columns plan) (plan-bit plan)

@@ -3,6 +3,7 @@ use mathlib.Core.Path.{_≡_}
 use mathlib.Core.List.{List}
 use Prim.Native.Nat.{ℕ, _≤_, _<_}
 use lib.ListN.{length}
+use Rattle.rack.specs.Limits.{lent-hops, lent-words}
 use Rattle.rack.specs.Wiring.{Wiring}
 use Rattle.rack.specs.Columns.{columns, column-count, address, Embedding}
 use Rattle.rack.specs.Refusals.{Refusal, rack-refusal}
@@ -27,8 +28,8 @@ pub record Planned-as (f : Refusal) (w : Wiring) (r : Answer) (ws h : List ℕ) 
   pub no-value : (r .number ≡ 0 → ⊥) → r .value ≡ 0
   pub words : r .number ≡ 0 → Words-of (columns w) (w .cards) ws
   pub hops : r .number ≡ 0 → Hops-in w h
-  pub long-words : length ws ≡ 1024
-  pub long-hops : length h ≡ 65536
+  pub long-words : length ws ≡ lent-words
+  pub long-hops : length h ≡ lent-hops
 
 abbrev pub Rack-planned : Wiring → Answer → (ws h : List ℕ) → Type 0
 Rack-planned w r ws h = Planned-as (rack-refusal w) w r ws h

@@ -1,20 +1,10 @@
--- A lent buffer that is written from its start on, and the bytes of an address in the words. Assumes nothing: these are definitions.
-use mathlib.Core.Path.{_≡_}
+-- The bytes of a plan as they are written from a file and the words. Assumes nothing: these are definitions.
 use mathlib.Core.List.{List, _++_}
-use Prim.Native.Nat.{ℕ, _+_, _*_, _-_, _/_, _%_, _^_, _≤_}
-use lib.ListN.{length, getD, replicate}
+use Prim.Native.Nat.{ℕ, _+_, _*_, _/_, _%_, _^_}
+use lib.ListN.{getD}
 use Rattle.rack.specs.Lists.{tabulate, blocks}
-use Rattle.rack.specs.WiringFile.{number-at, two-bytes}
-use Rattle.planner.specs.PlanBytes.{address-size}
-
--- the buffer begins with these bytes and is zero behind them
-pub record Written (out xs : List ℕ) : Type 0 where
-  pub within : length xs ≤ length out
-  pub is : out ≡ xs ++ replicate (length out - length xs) 0
-
--- what a function appends to a buffer that is written up to `at`
-abbrev pub Appends : (at : ℕ) → (old new xs : List ℕ) → Type 0
-Appends at old new ys = (xs : List ℕ) → length xs ≡ at → Written old xs → Written new (xs ++ ys)
+use Rattle.rack.specs.Buffers.{number-at, two-bytes}
+use Rattle.rack.specs.PlanFile.{address-size}
 
 -- byte t of card c's four words
 unfoldable pub word-byte : List ℕ → (c t : ℕ) → ℕ

@@ -2,31 +2,41 @@
 ghost use mathlib.Core.Path.{_≡_};
 ghost use Prim.Native.Nat.{ℕ, _+_, _*_, _/_, _%_, _^_, _<_, _≤_};
 ghost use lib.ListN.{length, getD, replicate};
+ghost use Rattle.rack.specs.Limits.{lent-hops, lent-words, most-cards};
 ghost use Rattle.rack.specs.Lists.{one};
 ghost use Rattle.rack.specs.Ones.{Counts};
 ghost use Rattle.rack.specs.WiringFile.{file-wiring};
 ghost use Rattle.survey.specs.Formed.{Formed};
 ghost use Rattle.survey.specs.Tables.{Hops-in};
-ghost use Rattle.planner.specs.Opening.{Column-added, Opened, side-in, words-hamming};
+ghost use Rattle.planner.specs.Opening.{Column-added, Opened, part-hamming, side-in, words-hamming};
 use rack::bytes::first_end;
 use rack::bytes::second_end;
 use rack::places::word_hamming;
 
+// The places in which words `t` of two cards differ.
+fn part_hamming(ones: &[u8; 256], words: &[u64], a: usize, b: usize, t: usize) -> u32
+    requires { ⌜ Counts (now ones) × (length (now words) ≡ lent-words) × (a < most-cards) × (b < most-cards) × (t < 4) ⌝ }
+    ensures is { λ r. ⌜ r ≡ part-hamming (now (words .entry)) a b t ⌝ }
+    ensures few { λ r. ⌜ r ≤ 64 ⌝ }
+{
+    word_hamming(ones, words[4 * a + t], words[4 * b + t])
+}
+
 // The places in which the words of two cards differ.
 pub fn card_hamming(ones: &[u8; 256], words: &[u64], a: usize, b: usize) -> u32
-    requires { ⌜ Counts (now ones) × (length (now words) ≡ 1024) × (a < 256) × (b < 256) ⌝ }
+    requires { ⌜ Counts (now ones) × (length (now words) ≡ lent-words) × (a < most-cards) × (b < most-cards) ⌝ }
     ensures { λ r. ⌜ r ≡ words-hamming (now (words .entry)) a b ⌝ }
 {
-    let p = word_hamming(ones, words[4 * a], words[4 * b]);
-    let q = word_hamming(ones, words[4 * a + 1], words[4 * b + 1]);
-    let r = word_hamming(ones, words[4 * a + 2], words[4 * b + 2]);
-    let s = word_hamming(ones, words[4 * a + 3], words[4 * b + 3]);
+    let p = part_hamming(ones, words, a, b, 0);
+    let q = part_hamming(ones, words, a, b, 1);
+    let r = part_hamming(ones, words, a, b, 2);
+    let s = part_hamming(ones, words, a, b, 3);
     p + q + r + s
 }
 
 // `weight` where card `c` is in the set without card 0 at a link from `p` to `q`, else 0.
 fn side_weight(hops: &[u8], p: usize, q: usize, c: usize, weight: u64) -> u64
-    requires { ⌜ (length (now hops) ≡ 65536) × (p < 256) × (q < 256) × (c < 256) ⌝ }
+    requires { ⌜ (length (now hops) ≡ lent-hops) × (p < most-cards) × (q < most-cards) × (c < most-cards) ⌝ }
     ensures { λ r. ⌜ r ≡ one (side-in (now (hops .entry)) p q c) * weight ⌝ }
 {
     if hops[256 * c + p] < hops[256 * c + q] {
@@ -43,7 +53,7 @@ fn side_weight(hops: &[u8], p: usize, q: usize, c: usize, weight: u64) -> u64
 
 // Adds column `k`, that of a link from `p` to `q`, to the words of the `n` cards.
 fn add_column(hops: &[u8], n: usize, p: usize, q: usize, k: usize, words: &mut [u64])
-    requires { ⌜ (length (now hops) ≡ 65536) × (length (now words) ≡ 1024) × (n ≤ 256) × (p < 256) × (q < 256) × (k < 256) × ((c : ℕ) → c < n → getD (now words) (4 * c + k / 64) 0 < 2 ^ (k % 64)) ⌝ }
+    requires { ⌜ (length (now hops) ≡ lent-hops) × (length (now words) ≡ lent-words) × (n ≤ most-cards) × (p < most-cards) × (q < most-cards) × (k < 256) × ((c : ℕ) → c < n → getD (now words) (4 * c + k / 64) 0 < 2 ^ (k % 64)) ⌝ }
     ensures { λ _. ⌜ Column-added (now (hops .entry)) (now (words .entry)) (now (words .exit)) p q k n ⌝ }
 {
     let word = k / 64;
@@ -90,7 +100,7 @@ pub fn open_columns(
     hops: &[u8],
     words: &mut [u64],
 ) -> usize
-    requires { ⌜ Counts (now ones) × Formed (now file) n m × Hops-in (file-wiring (now file)) (now hops) × (now words ≡ replicate 1024 0) ⌝ }
+    requires { ⌜ Counts (now ones) × Formed (now file) n m × Hops-in (file-wiring (now file)) (now hops) × (now words ≡ replicate lent-words 0) ⌝ }
     ensures { λ r. ⌜ Opened (file-wiring (now (file .entry))) n m (now (words .exit)) r ⌝ }
 {
     let mut k: usize = 0;

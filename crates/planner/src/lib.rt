@@ -2,17 +2,21 @@
 ghost use mathlib.Core.Path.{_≡_};
 ghost use mathlib.Core.Bool.{true};
 ghost use lib.ListN.{length, replicate};
+ghost use Rattle.rack.specs.Limits.{lent-hops, lent-words};
 ghost use Rattle.rack.specs.Hops.{connected};
 ghost use Rattle.rack.specs.WiringFile.{file-wiring};
 ghost use Rattle.survey.specs.Formed.{Formed};
 ghost use Rattle.survey.specs.Tables.{Hops-in};
 ghost use Rattle.planner.specs.Stages.{Addressed, File-planned, Rack-planned};
-ghost use Rattle.planner.specs.Planning.{Addresses-found, Asked, Plan-says, Write-says};
+ghost use Rattle.planner.specs.Planning.{Addresses-found, Asked, Asked-to-write, Plan-found, Plan-says, Write-says};
 use columns::open_columns;
-use fill::clear_bytes;
-use fill::clear_words;
 use pairs::pairs_measure;
 use rack::bytes::number_at;
+use rack::fill::clear_bytes;
+use rack::fill::clear_words;
+use rack::limits::LENT_HOPS;
+use rack::limits::LENT_PLAN;
+use rack::limits::LENT_WORDS;
 use rack::ones::ones_table;
 use survey::hops::all_hops;
 use survey::hops::parity_fault;
@@ -23,7 +27,6 @@ use survey::reach::reach_fault;
 use write::put_plan;
 
 pub mod columns;
-pub mod fill;
 pub mod pairs;
 pub mod write;
 
@@ -36,7 +39,7 @@ pub struct Answer {
 
 // Addresses in words that are zero at entry: the number of columns, or `n` where the rack has none.
 fn address_cards(file: &[u8], n: usize, m: usize, hops: &[u8], words: &mut [u64]) -> usize
-    requires { ⌜ Formed (now file) n m × (connected (file-wiring (now file)) ≡ true) × Hops-in (file-wiring (now file)) (now hops) × (now words ≡ replicate 1024 0) ⌝ }
+    requires { ⌜ Formed (now file) n m × (connected (file-wiring (now file)) ≡ true) × Hops-in (file-wiring (now file)) (now hops) × (now words ≡ replicate lent-words 0) ⌝ }
     ensures { λ r. ⌜ Addressed (file-wiring (now (file .entry))) n (now (words .exit)) r ⌝ }
 {
     let ones = ones_table();
@@ -52,7 +55,7 @@ fn address_cards(file: &[u8], n: usize, m: usize, hops: &[u8], words: &mut [u64]
 
 // 9, 10, 11 of a file that passed 2 to 8, or its plan in buffers that are zero at entry.
 fn plan_formed(file: &[u8], n: usize, m: usize, words: &mut [u64], hops: &mut [u8]) -> Answer
-    requires { ⌜ Formed (now file) n m × (now words ≡ replicate 1024 0) × (now hops ≡ replicate 65536 0) ⌝ }
+    requires { ⌜ Formed (now file) n m × (now words ≡ replicate lent-words 0) × (now hops ≡ replicate lent-hops 0) ⌝ }
     ensures { λ r. ⌜ Rack-planned (file-wiring (now (file .entry))) r (now (words .exit)) (now (hops .exit)) ⌝ }
 {
     let order = link_order(file, n, m);
@@ -90,7 +93,7 @@ fn plan_formed(file: &[u8], n: usize, m: usize, words: &mut [u64], hops: &mut [u
 
 // 2 to 11 of a file, or its plan in buffers that are zero at entry.
 pub fn plan_file(file: &[u8], words: &mut [u64], hops: &mut [u8]) -> Answer
-    requires { ⌜ (now words ≡ replicate 1024 0) × (now hops ≡ replicate 65536 0) ⌝ }
+    requires { ⌜ (now words ≡ replicate lent-words 0) × (now hops ≡ replicate lent-hops 0) ⌝ }
     ensures { λ r. ⌜ File-planned (now (file .entry)) r (now (words .exit)) (now (hops .exit)) ⌝ }
 {
     let x = sizes_fault(file);
@@ -120,14 +123,14 @@ pub fn plan_rack(file: &[u8], words: &mut [u64], hops: &mut [u8]) -> Answer
     ensures says { λ r. ⌜ Plan-says (now (file .entry)) r (now (words .entry)) (now (words .exit)) (now (hops .entry)) (now (hops .exit)) ⌝ }
     ensures found { λ r. ⌜ (Asked (now (file .entry)) (now (words .entry)) (now (hops .entry)) → Addresses-found (file-wiring (now (file .entry))) r (now (words .exit)) (now (hops .exit))) ⌝ }
 {
-    if words.len() != 1024 {
+    if words.len() != LENT_WORDS {
         return Answer {
             number: 1,
             at: 0,
             value: 0,
         };
     }
-    if hops.len() != 65536 {
+    if hops.len() != LENT_HOPS {
         return Answer {
             number: 1,
             at: 0,
@@ -146,17 +149,18 @@ pub fn plan_rack(file: &[u8], words: &mut [u64], hops: &mut [u8]) -> Answer
 
 // Writes the plan file of a rack, or a refusal; the value is the used length.
 pub fn write_plan(file: &[u8], output: &mut [u8]) -> Answer
-    ensures { λ r. ⌜ Write-says (now (file .entry)) r (now (output .entry)) (now (output .exit)) ⌝ }
+    ensures says { λ r. ⌜ Write-says (now (file .entry)) r (now (output .entry)) (now (output .exit)) ⌝ }
+    ensures found { λ r. ⌜ (Asked-to-write (now (file .entry)) (now (output .entry)) → Plan-found (file-wiring (now (file .entry))) r (now (output .exit))) ⌝ }
 {
-    if output.len() != 16390 {
+    if output.len() != LENT_PLAN {
         return Answer {
             number: 1,
             at: 0,
             value: 0,
         };
     }
-    let mut words = [0u64; 1024];
-    let mut hops = [0u8; 65536];
+    let mut words = [0u64; LENT_WORDS];
+    let mut hops = [0u8; LENT_HOPS];
     let answer = plan_file(file, &mut words, &mut hops);
     clear_bytes(output);
     if answer.number != 0 {

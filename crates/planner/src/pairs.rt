@@ -3,13 +3,14 @@ ghost use mathlib.Core.Path.{_≡_};
 ghost use mathlib.Core.Bool.{true, false};
 ghost use Prim.Native.Nat.{_≤_};
 ghost use lib.ListN.{length};
+ghost use Rattle.rack.specs.Limits.{lent-hops, lent-words, most-cards};
 ghost use Rattle.rack.specs.Ones.{Counts};
 ghost use Rattle.planner.specs.Opening.{Pairs-measure};
 use crate::columns::card_hamming;
 
 // Whether every pair of cards has as many differing places as hops; both loops are left at the first pair that has not.
 pub fn pairs_measure(ones: &[u8; 256], words: &[u64], hops: &[u8], n: usize) -> bool
-    requires { ⌜ Counts (now ones) × (length (now words) ≡ 1024) × (length (now hops) ≡ 65536) × (n ≤ 256) ⌝ }
+    requires { ⌜ Counts (now ones) × (length (now words) ≡ lent-words) × (length (now hops) ≡ lent-hops) × (n ≤ most-cards) ⌝ }
     ensures holds { λ r. ⌜ (r ≡ true → Pairs-measure (now (words .entry)) (now (hops .entry)) n) ⌝ }
     ensures fails { λ r. ⌜ (r ≡ false → Pairs-measure (now (words .entry)) (now (hops .entry)) n → ⊥) ⌝ }
 {

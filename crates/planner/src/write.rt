@@ -2,21 +2,16 @@
 ghost use mathlib.Core.Path.{_≡_};
 ghost use Prim.Native.Nat.{_+_, _*_, _<_, _≤_};
 ghost use lib.ListN.{length, replicate};
+ghost use Rattle.rack.specs.Limits.{lent-plan, lent-words, most-cards, most-columns};
 ghost use Rattle.rack.specs.Lists.{tabulate, blocks};
-ghost use Rattle.rack.specs.WiringFile.{two-bytes};
+ghost use Rattle.rack.specs.Buffers.{two-bytes, Appends, Written};
 ghost use Rattle.survey.specs.Formed.{Sizes-are};
-ghost use Rattle.planner.specs.Writing.{Appends, Written, end-pair, word-byte, written-bytes};
+ghost use Rattle.planner.specs.Writing.{end-pair, word-byte, written-bytes};
 ghost use mathlib.Core.List.{_++_};
 use rack::bytes::number_at;
-
-// Appends a number of 16 bits, low byte first.
-pub fn put_number(output: &mut [u8], at: usize, v: usize)
-    requires { ⌜ at + 1 < length (now output) ⌝ }
-    ensures { λ _. ⌜ Appends at (now (output .entry)) (now (output .exit)) (two-bytes v) ⌝ }
-{
-    output[at] = (v % 256) as u8;
-    output[at + 1] = (v / 256 % 256) as u8;
-}
+use rack::bytes::put_number;
+use rack::plan_file::address_size;
+use rack::plan_file::address_start;
 
 // Writes the three sizes.
 fn put_sizes(output: &mut [u8], n: usize, m: usize, k: usize)
@@ -42,7 +37,7 @@ fn put_ends(file: &[u8], count: usize, output: &mut [u8])
 
 // Byte `t` of the words of card `c`.
 fn address_byte(words: &[u64], c: usize, t: usize) -> u8
-    requires { ⌜ (length (now words) ≡ 1024) × (c < 256) × (t < 32) ⌝ }
+    requires { ⌜ (length (now words) ≡ lent-words) × (c < most-cards) × (t < 32) ⌝ }
     ensures { λ r. ⌜ r ≡ word-byte (now (words .entry)) c t ⌝ }
 {
     ((words[4 * c + t / 8] >> (8 * (t % 8))) % 256) as u8
@@ -50,7 +45,7 @@ fn address_byte(words: &[u64], c: usize, t: usize) -> u8
 
 // Appends the first `size` bytes of the words of card `c`.
 fn put_address(words: &[u64], c: usize, size: usize, output: &mut [u8], at: usize)
-    requires { ⌜ (length (now words) ≡ 1024) × (c < 256) × (size ≤ 32) × (at + size ≤ length (now output)) ⌝ }
+    requires { ⌜ (length (now words) ≡ lent-words) × (c < most-cards) × (size ≤ 32) × (at + size ≤ length (now output)) ⌝ }
     ensures { λ _. ⌜ Appends at (now (output .entry)) (now (output .exit)) (tabulate size (word-byte (now (words .entry)) c)) ⌝ }
 {
     let mut t: usize = 0;
@@ -62,7 +57,7 @@ fn put_address(words: &[u64], c: usize, size: usize, output: &mut [u8], at: usiz
 
 // Appends the addresses of `n` cards.
 fn put_addresses(words: &[u64], n: usize, size: usize, output: &mut [u8], at: usize)
-    requires { ⌜ (length (now words) ≡ 1024) × (n ≤ 256) × (size ≤ 32) × (at + n * size ≤ length (now output)) ⌝ }
+    requires { ⌜ (length (now words) ≡ lent-words) × (n ≤ most-cards) × (size ≤ 32) × (at + n * size ≤ length (now output)) ⌝ }
     ensures { λ _. ⌜ Appends at (now (output .entry)) (now (output .exit)) (blocks n (λ c. tabulate size (word-byte (now (words .entry)) c))) ⌝ }
 {
     let mut c: usize = 0;
@@ -81,13 +76,13 @@ pub fn put_plan(
     words: &[u64],
     output: &mut [u8],
 ) -> usize
-    requires { ⌜ Sizes-are (now file) n m × (k ≤ 255) × (length (now words) ≡ 1024) × (now output ≡ replicate 16390 0) ⌝ }
+    requires { ⌜ Sizes-are (now file) n m × (k ≤ most-columns) × (length (now words) ≡ lent-words) × (now output ≡ replicate lent-plan 0) ⌝ }
     ensures bytes { λ r. ⌜ Written (now (output .exit)) (written-bytes (now (file .entry)) (now (words .entry)) k) ⌝ }
     ensures long { λ r. ⌜ r ≡ length (written-bytes (now (file .entry)) (now (words .entry)) k) ⌝ }
 {
-    let size = (k + 7) / 8;
+    let size = address_size(k);
     put_sizes(output, n, m, k);
     put_ends(file, 2 * m, output);
-    put_addresses(words, n, size, output, 6 + 4 * m);
-    6 + 4 * m + n * size
+    put_addresses(words, n, size, output, address_start(m, size, 0));
+    address_start(m, size, n)
 }

@@ -8,7 +8,9 @@ use Rattle.forwarder.specs.Promises.{Step-first, Step-local, Step-call-local, W
 use Rattle.forwarder.proofs.Promises as forwarder
 use Rattle.opened.specs.Promises.{Carries-exactly, Opening-whole, Refused-opening, Other-sizes, Opened-frame-arrives}
 use Rattle.opened.proofs.Promises as opened
-use Rattle.listing_text.specs.Promises.{Listing-fits, Decimal-value, Decimal-first, Decimal-digits}
+use Rattle.text.specs.Promises.{Decimal-value, Decimal-first, Decimal-digits}
+use Rattle.text.proofs.Promises as text
+use Rattle.listing_text.specs.Promises.{Listing-fits}
 use Rattle.listing_text.proofs.Promises as listing
 
 -- hops are the fewest links
@@ -129,10 +131,10 @@ listing-fits = listing.listing-fits
 
 -- a number in it reads back, has no zero in front, and is made of digits
 pub decimal-value : Decimal-value
-decimal-value = listing.decimal-value
+decimal-value = text.decimal-value
 
 pub decimal-first : Decimal-first
-decimal-first = listing.decimal-first
+decimal-first = text.decimal-first
 
 pub decimal-digits : Decimal-digits
-decimal-digits = listing.decimal-digits
+decimal-digits = text.decimal-digits

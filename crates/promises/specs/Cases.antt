@@ -12,7 +12,7 @@ use Rattle.rack.specs.Columns.{column-count, address}
 use Rattle.planner.specs.PlanBytes.{plan-bytes}
 use Rattle.reader.specs.Plan.{plan-refusal}
 use Rattle.forwarder.specs.Forwarding.{step, walk}
-use Rattle.listing_text.specs.Codes.{codes}
+use Rattle.text.specs.Codes.{codes}
 use Rattle.listing_text.specs.Listing.{listing}
 
 pub data Claim : Type 0 where

@@ -12,6 +12,8 @@ pub mod Refusals
 pub mod Acceptance
 pub mod FewColumns
 pub mod WiringFile
+pub mod Zeros
+pub mod Appending
 pub mod Numbers
 pub mod Accepted
 pub mod Parity

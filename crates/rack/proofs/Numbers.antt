@@ -14,7 +14,9 @@ use Rattle.rack.specs.Hops.{hops, connected, unreached}
 use Rattle.rack.specs.Columns.{column-count, address, embeds}
 use Rattle.rack.specs.Refusals.{Refusal, refusal, or-else, lowest-fault, most-parallel, link-fault, links-refusal}
 use Rattle.rack.specs.Refusals.{parity-refusal, embedding-refusal, rack-refusal}
-use Rattle.rack.specs.WiringFile.{most-cards, most-links, number-at, file-wiring, sizes-fault, form-refusal, file-refusal}
+use Rattle.rack.specs.Limits.{most-cards, most-links}
+use Rattle.rack.specs.Buffers.{number-at}
+use Rattle.rack.specs.WiringFile.{file-wiring, sizes-fault, form-refusal, file-refusal}
 use Rattle.rack.proofs.Logic.{by-bool, by-eq, and-left, and-right}
 use Rattle.rack.proofs.Tables.{lowest-le}
 use Rattle.rack.proofs.Refusals.{or-else-clear, or-else-first, or-else-second}

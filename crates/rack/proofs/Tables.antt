@@ -2,7 +2,7 @@
 use mathlib.Core.Path.{_≡_, refl, sym, ap, ap₂, _∙_}
 use mathlib.Core.Bool.{Bool, true, false}
 use mathlib.Core.Logic.{inl, inr}
-use mathlib.Core.List.{List, [], _∷_, _++_, map, append-assoc}
+use mathlib.Core.List.{List, [], _∷_, _++_, map, append-assoc, append-nil}
 use Prim.Native.Nat.{ℕ, zero, suc, _+_, _*_, _≤_, _<_}
 use native.Mathlib.Omega.{arith}
 use lib.ListN.{length, getD, length-append, List·getD-append, List·getD-eq-default}
@@ -145,3 +145,16 @@ lowest-ext n p q h =
     lowest-is n p (lowest n q) (lowest-le n q)
     (λ j l. h j (omega (arith, lowest-le n q)) ∙ lowest-first n q j l)
     (λ l. h (lowest n q) l ∙ lowest-passes n q l)
+
+-- TABLES AND BLOCKS by their last element
+pub tabulate-snoc : {A : Type 0} (n : ℕ) (f : ℕ → A) → tabulate (n + 1) f ≡ tabulate n f ++ (f n ∷ [])
+tabulate-snoc zero f = refl
+tabulate-snoc (suc n) f =
+    let e : suc n + 1 ≡ suc (n + 1) = omega arith in
+    rw e (cc (tabulate-snoc n (λ i. f (suc i))))
+
+pub blocks-snoc : {A : Type 0} (n : ℕ) (f : ℕ → List A) → blocks (n + 1) f ≡ blocks n f ++ f n
+blocks-snoc zero f = append-nil (f 0)
+blocks-snoc (suc n) f =
+    let e : suc n + 1 ≡ suc (n + 1) = omega arith in
+    rw e (ap (λ (t : List _). f 0 ++ t) (blocks-snoc n (λ i. f (suc i))) ∙ sym (append-assoc (f 0) (blocks n (λ i. f (suc i))) (f (suc n))))

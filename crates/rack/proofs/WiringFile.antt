@@ -10,7 +10,9 @@ use lib.Seq.{drop-cons, getD-append-add, take-add, take-all, drop-drop}
 use borrow.Author.Tests.{eqb-true, eq-eqb, ltb-true, ltb-false, le-ltb, leb-true, le-leb, not-false}
 use Rattle.rack.specs.Lists.{all, blocks}
 use Rattle.rack.specs.Wiring.{Link, Wiring, link, wiring, link-count, link-at}
-use Rattle.rack.specs.WiringFile.{most-cards, most-links, number-at, wiring-at, file-wiring, sizes-fault, two-bytes, end-bytes, file-bytes}
+use Rattle.rack.specs.Limits.{most-cards, most-links}
+use Rattle.rack.specs.Buffers.{number-at, two-bytes}
+use Rattle.rack.specs.WiringFile.{wiring-at, file-wiring, sizes-fault, end-bytes, file-bytes}
 use Rattle.rack.proofs.Logic.{and-left, and-right}
 use Rattle.rack.proofs.Tables.{length-tabulate, getD-tabulate, tabulate-ext, tabulate-getD, length-blocks, getD-blocks, blocks-ext}
 use Rattle.rack.proofs.Refusals.{cond-zero}

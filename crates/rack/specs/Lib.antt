@@ -1,10 +1,13 @@
 pub mod Lists
 pub mod Bits
+pub mod Limits
+pub mod Buffers
 pub mod Ones
 pub mod Wiring
 pub mod Hops
 pub mod Columns
 pub mod Refusals
 pub mod WiringFile
+pub mod PlanFile
 pub mod Embeddings
 pub mod Promises

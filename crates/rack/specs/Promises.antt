@@ -11,7 +11,8 @@ use Rattle.rack.specs.Wiring.{Wiring, link-count, link-at, joins, linked
 use Rattle.rack.specs.Hops.{hops, is-path, connected}
 use Rattle.rack.specs.Columns.{columns, column-count, address, Embedding}
 use Rattle.rack.specs.Refusals.{most-parallel, links-refusal, well-formed, parity-refusal, rack-refusal}
-use Rattle.rack.specs.WiringFile.{number-at, file-wiring, sizes-fault, form-refusal, file-refusal, file-bytes}
+use Rattle.rack.specs.Buffers.{number-at}
+use Rattle.rack.specs.WiringFile.{file-wiring, sizes-fault, form-refusal, file-refusal, file-bytes}
 use Rattle.rack.specs.Embeddings.{reduced-columns, times}
 
 -- "Hops between two cards are the fewest links on a way from one to the other": no path has fewer, one has as many,

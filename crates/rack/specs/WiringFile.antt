@@ -1,22 +1,14 @@
 -- Wiring files: their bytes, the wiring inside, refusals 2 to 5. Assumes nothing: these are definitions.
 use mathlib.Core.Bool.{_&&_, not, cond}
-use mathlib.Core.List.{List, [], _∷_, _++_}
-use Prim.Native.Nat.{ℕ, suc, _+_, _*_, _/_, _%_}
+use mathlib.Core.List.{List, _++_}
+use Prim.Native.Nat.{ℕ, _+_, _*_}
 use lib.Dec.{ltb, leb, eqb}
-use lib.ListN.{length, getD}
+use lib.ListN.{length}
 use Rattle.rack.specs.Lists.{tabulate, blocks}
+use Rattle.rack.specs.Limits.{most-cards, most-links}
+use Rattle.rack.specs.Buffers.{number-at, two-bytes}
 use Rattle.rack.specs.Wiring.{Wiring, link, wiring, link-count, link-at}
 use Rattle.rack.specs.Refusals.{Refusal, refusal, or-else, links-refusal, rack-refusal}
-
-abbrev pub most-cards : ℕ
-most-cards = 256
-
-abbrev pub most-links : ℕ
-most-links = 2048
-
--- the number of 16 bits at a place, low byte first
-unfoldable pub number-at : List ℕ → (i : ℕ) → ℕ
-number-at bs i = getD bs i 0 + 256 * getD bs (suc i) 0
 
 -- card count, link count, and from `base` on the first ends, then the second ends
 unfoldable pub wiring-at : (base : ℕ) → List ℕ → Wiring
@@ -44,10 +36,6 @@ form-refusal bs = or-else (refusal (sizes-fault bs) 0) (links-refusal (file-wiri
 -- 2 to 11: a file without them is accepted
 unfoldable pub file-refusal : List ℕ → Refusal
 file-refusal bs = or-else (form-refusal bs) (rack-refusal (file-wiring bs))
-
--- a number as two bytes, low byte first
-unfoldable pub two-bytes : ℕ → List ℕ
-two-bytes v = (v % 256) ∷ (v / 256 % 256) ∷ []
 
 -- the first ends, then the second ends
 unfoldable pub end-bytes : Wiring → List ℕ

@@ -1,24 +1,59 @@
 -- A card's address as a part of the plan: its place, and the refusals beside it. Assumes nothing.
-use mathlib.Core.Path.{_≡_, refl, sym, _∙_}
+use mathlib.Core.Path.{_≡_, refl, sym, ap, _∙_}
 use mathlib.Core.Logic.{_≢_}
 use mathlib.Core.List.{List, []}
-use Prim.Native.Nat.{ℕ, _+_, _*_, _-_, _/_, _≤_, _<_}
-use native.Mathlib.Nat.{suc-mul, mul-le-mul, mul-le-mul-right, add-sub-cancel-left}
+use Prim.Native.Nat.{ℕ, _+_, _-_, _/_, _≤_, _<_}
+use native.Mathlib.Nat.{add-sub-cancel-left}
 use native.Mathlib.Omega.{arith}
-use lib.ListN.{length, take, drop}
+use base.Fml.{GName}
+use lib.ListN.{take, drop}
 use borrow.Author.Tests.{eq-eqb, ne-eqb, le-leb, lt-leb}
-use Rattle.planner.specs.PlanBytes.{address-size}
-use Rattle.reader.specs.Plan.{plan-cards, plan-links, plan-columns, plan-refusal}
-use Rattle.reader.specs.Reading.{Read-says, address-refusal, address-part}
+use Rattle.rack.specs.PlanFile.{plan-cards, plan-links, plan-columns, address-size, address-start}
+use Rattle.reader.specs.Plan.{plan-refusal}
+use Rattle.reader.specs.Reading.{Read-says, address-refusal, address-part, Laid-out, address-offset, Address-says}
 use Rattle.reader.specs.declared.layout.Sizes.{Sizes}
-use Rattle.reader.proofs.Plan.{layout-facts, plan-clear}
+use Rattle.reader.proofs.Plan.{layout-facts, layout-read, plan-clear}
+use Rattle.reader.proofs.Addresses.{Inside, address-at, address-inside}
 
+module _ (ps : List ℕ) (c : ℕ) where
+  -- THE NUMBER: the plan's, 14 or none
+  pub plan-refused : plan-refusal ps ≢ 0 → address-refusal ps c ≡ plan-refusal ps
+  unfolding address-refusal
+  plan-refused n = rw (ne-eqb (plan-refusal ps) 0 n) refl
+
+  pub card-refused : plan-refusal ps ≡ 0 → plan-cards ps ≤ c → address-refusal ps c ≡ 14
+  unfolding address-refusal
+  card-refused e h = rw (eq-eqb (plan-refusal ps) 0 e, le-leb (plan-cards ps) c h) refl
+
+  pub card-clear : plan-refusal ps ≡ 0 → c < plan-cards ps → address-refusal ps c ≡ 0
+  unfolding address-refusal
+  card-clear e h = rw (eq-eqb (plan-refusal ps) 0 e, lt-leb (plan-cards ps) c h) refl
+
+  -- THE PART beside it
+  pub refused-part : address-refusal ps c ≢ 0 → (address-offset ps c ≡ 0) × (address-part ps c ≡ [])
+  unfolding address-offset address-part
+  refused-part n = rw (ne-eqb (address-refusal ps c) 0 n) (refl, refl)
+
+  clear-part : address-refusal ps c ≡ 0
+      → (address-offset ps c ≡ address-start ps c) × (address-part ps c ≡ take (address-size (plan-columns ps)) (drop (address-start ps c) ps))
+  unfolding address-offset address-part
+  clear-part e = rw (eq-eqb (address-refusal ps c) 0 e) (refl, refl)
+
+  -- the number and the slice that are handed out of a plan, so far behind its first byte, with these bytes
+  abbrev Handed : (number far : ℕ) (bs : List ℕ) → Type 0
+  Handed number far bs =
+      (at : ℕ × ℕ) (γ : GName) → Address-says ps at c (record { ptr = (at .0, far + at .1); name = γ; now = bs }) × (number ≡ address-refusal ps c)
+
+  handed : (number far : ℕ) (bs : List ℕ) → far ≡ address-offset ps c → bs ≡ address-part ps c → number ≡ address-refusal ps c → Handed number far bs
+  handed number far bs place bytes e at γ = (record { place = ap (λ (x : ℕ). (at .0, x + at .1)) place; bytes = bytes }, e)
+
+  none-handed : (number : ℕ) → number ≢ 0 → number ≡ address-refusal ps c → Handed number 0 []
+  none-handed number n e = let z = refused-part (λ h. n (e ∙ h)) in handed number 0 [] (sym (z .0)) (sym (z .1)) e
+
+-- AS THE CODE goes on from what reading answers
 module _ (ps : List ℕ) (c : ℕ) (r : Sizes) (s : Read-says ps r) where
-  pub address-refused : r .number ≢ 0 → (_≡_ {A = List ℕ} [] (address-part ps c)) × (r .number ≡ address-refusal ps c)
-  unfolding address-part address-refusal
-  address-refused n =
-      let z : plan-refusal ps ≢ 0 = λ e. n (s .number ∙ e) in
-      (rw (ne-eqb (plan-refusal ps) 0 z, ne-eqb (plan-refusal ps) 0 z) refl, rw (ne-eqb (plan-refusal ps) 0 z) (s .number))
+  pub address-refused : r .number ≢ 0 → Handed ps c (r .number) 0 []
+  address-refused n = none-handed ps c (r .number) n (s .number ∙ sym (plan-refused ps c (λ e. n (s .number ∙ e))))
 
   module _ (e : r .number ≡ 0) where
     read : plan-refusal ps ≡ 0
@@ -33,44 +68,28 @@ module _ (ps : List ℕ) (c : ℕ) (r : Sizes) (s : Read-says ps r) where
     columns-answered : r .columns ≡ plan-columns ps
     columns-answered = s .columns ∙ rw (eq-eqb (plan-refusal ps) 0 read) refl
 
-    pub address-outside : r .cards ≤ c → (_≡_ {A = List ℕ} [] (address-part ps c)) × (_≡_ {A = ℕ} 14 (address-refusal ps c))
-    unfolding address-part address-refusal
-    address-outside h =
-        rw (eq-eqb (plan-refusal ps) 0 read, le-leb (plan-cards ps) c (omega (arith, cards-answered))) (refl, refl)
+    pub address-outside : r .cards ≤ c → Handed ps c 14 0 []
+    address-outside h = none-handed ps c 14 (λ z. omega arith) (sym (card-refused ps c read (omega (arith, cards-answered))))
 
-    -- the part's place, and room for each sum
-    pub record Place : Type 0 where
-      pub columns : r .columns ≤ 255
-      pub links : r .links ≤ 2048
-      pub few : c * ((r .columns + 7) / 8) ≤ 8192
-      pub inside : 6 + 4 * r .links + c * ((r .columns + 7) / 8) + (r .columns + 7) / 8 ≤ length ps
+    -- the sizes answered are a layout's, and the part lies inside the plan
+    pub read-laid-out : Laid-out ps (r .cards) (r .links) (r .columns)
+    read-laid-out =
+        layout-read ps (r .cards) (r .links) (r .columns) cards-answered links-answered columns-answered (layout-facts ps (plan-clear ps read .0))
 
-    pub address-place : c < r .cards → Place
+    pub address-place : c < r .cards → Inside ps (r .links) (r .columns) c
+    address-place h = address-inside ps (r .cards) (r .links) (r .columns) read-laid-out c h
+
+    abbrev start : ℕ
+    start = address-at (r .links) (r .columns) c
+
+    start-answered : start ≡ address-start ps c
     unfolding address-size
-    address-place h =
-        let z = layout-facts ps (plan-clear ps read .0) in
-        let size = (plan-columns ps + 7) / 8 in
-        record {
-          columns = omega (arith, columns-answered, z .columns);
-          links = omega (arith, links-answered, z .links);
-          few = rw columns-answered (mul-le-mul {n₂ = 256} {m₂ = 32} (omega (arith, cards-answered, z .cards)) (omega (arith, z .columns)));
-          inside = rw (columns-answered, links-answered) (omega (arith, z .long, suc-mul c size, mul-le-mul-right size (address-below h)));
-        }
-      where
-        address-below : c < r .cards → c < plan-cards ps
-        address-below h = omega (arith, cards-answered)
+    start-answered = rw (links-answered, columns-answered) refl
 
-    pub address-inside : c < r .cards
-        → (take (6 + 4 * r .links + c * ((r .columns + 7) / 8) + (r .columns + 7) / 8 - (6 + 4 * r .links + c * ((r .columns + 7) / 8)))
-        (drop (6 + 4 * r .links + c * ((r .columns + 7) / 8)) ps) ≡ address-part ps c)
-        × (r .number ≡ address-refusal ps c)
-    unfolding address-part address-refusal address-size
-    address-inside h =
-        rw (
-          eq-eqb (plan-refusal ps) 0 read,
-          lt-leb (plan-cards ps) c
-              (omega (arith, cards-answered)),
-          add-sub-cancel-left,
-          ← links-answered,
-          ← columns-answered,
-        ) (refl, e)
+    pub address-handed : c < r .cards → Handed ps c (r .number) start (take (start + (r .columns + 7) / 8 - start) (drop start ps))
+    unfolding address-size
+    address-handed h =
+        let clear = card-clear ps c read (omega (arith, cards-answered)) in
+        let z = clear-part ps c clear in
+        handed ps c (r .number) start (take (start + (r .columns + 7) / 8 - start) (drop start ps)) (start-answered ∙ sym (z .0))
+        (rw (add-sub-cancel-left, start-answered, columns-answered) (sym (z .1))) (e ∙ sym clear)

@@ -9,8 +9,7 @@ use lib.Pow.{shl-exact}
 use Rattle.rack.specs.Bits.{number-bit}
 use Rattle.rack.specs.Columns.{hamming}
 use Rattle.rack.proofs.Hamming.{hamming-none, hamming-le, hamming-add, hamming-ext, hamming-cut}
-use Rattle.planner.specs.PlanBytes.{address-size}
-use Rattle.reader.specs.Plan.{plan-columns, plan-bit, plan-hamming}
+use Rattle.rack.specs.PlanFile.{plan-columns, plan-bit, plan-hamming, address-size}
 use Rattle.reader.specs.Reading.{Laid-out, bit-from}
 use Rattle.reader.proofs.Reading.{few-address-bytes}
 

@@ -8,14 +8,14 @@ use lib.ListN.{length, getD, take, drop, replicate, length-append}
 use lib.Seq.{getD-take, getD-drop, take-at}
 use Rattle.rack.specs.Wiring.{link, wiring}
 use Rattle.rack.specs.Refusals.{refusal, links-refusal, wiring-refusal}
-use Rattle.rack.specs.WiringFile.{number-at, wiring-at, file-wiring, sizes-fault, form-refusal, file-refusal}
+use Rattle.rack.specs.Buffers.{number-at, Appends}
+use Rattle.rack.specs.WiringFile.{wiring-at, file-wiring, sizes-fault, form-refusal, file-refusal}
 use Rattle.rack.proofs.Tables.{tabulate-ext}
 use Rattle.rack.proofs.Refusals.{or-else-second}
 use Rattle.rack.proofs.WiringFile.{sized-clear, number-at-left, number-at-right}
-use Rattle.planner.specs.Writing.{Appends}
-use Rattle.planner.proofs.Appending.{written-none, appends-then}
-use Rattle.reader.specs.Plan.{plan-links, plan-wiring}
-use Rattle.reader.proofs.Plan.{Layout}
+use Rattle.rack.proofs.Appending.{written-none, appends-then}
+use Rattle.rack.specs.PlanFile.{plan-links, plan-wiring}
+use Rattle.reader.proofs.Plan.{Layout, layout-head}
 use Rattle.reader.proofs.Parts.{length-part}
 
 -- sizes, then ends
@@ -31,7 +31,7 @@ part-number k n i xs h =
 
 module _ (ps : List ℕ) (z : Layout ps) where
   length-head : length (take 4 (drop 0 ps)) ≡ 4
-  length-head = length-part 0 4 ps (omega (arith, z .head))
+  length-head = length-part 0 4 ps (omega (arith, layout-head ps z))
 
   pub length-inner : length (inner-file ps) ≡ 4 + 4 * plan-links ps
   length-inner = simp length-append (omega (arith, length-head, length-part 6 (4 * plan-links ps) ps (omega (arith, z .long))))
@@ -66,8 +66,8 @@ module _ (ps : List ℕ) (z : Layout ps) where
       (record {
         head = omega (arith, length-inner);
         some = omega (arith, head-number 0 (omega arith), z .some);
-        cards = omega (arith, head-number 0 (omega arith), z .cards);
-        links = omega (arith, head-number 2 (omega arith), z .links);
+        cards = omega (arith, head-number 0 (omega arith), z .few);
+        links = omega (arith, head-number 2 (omega arith), z .few-links);
         long = omega (arith, length-inner, head-number 2 (omega arith));
       })
 

@@ -1,35 +1,31 @@
 -- Plan files: the layout's sizes, what reading says of a plan, and that the planner's plans are read. Assumes nothing.
 use mathlib.Core.Path.{_≡_, refl, ap}
-use mathlib.Core.Bool.{Bool, true, _&&_, not, cond}
+use mathlib.Core.Bool.{Bool, true, false, _&&_, not, cond}
 use mathlib.Core.List.{List}
-use Prim.Native.Nat.{ℕ, _+_, _*_, _/_, _%_, _≤_, _<_}
+use Prim.Native.Nat.{ℕ, _+_, _*_, _≤_, _<_}
 use native.Mathlib.Omega.{arith}
 use lib.Dec.{leb, eqb}
 use lib.ListN.{length}
 use borrow.Author.Tests.{eqb-true, eq-eqb, leb-true, le-leb, not-false}
 use Rattle.rack.specs.Lists.{same}
 use Rattle.rack.specs.Wiring.{Wiring, link-count}
-use Rattle.rack.specs.WiringFile.{most-cards, most-links}
-use Rattle.rack.specs.Columns.{column-count, address}
+use Rattle.rack.specs.Limits.{most-cards, most-links, most-columns}
+use Rattle.rack.specs.Columns.{column-count}
 use Rattle.rack.specs.Refusals.{wiring-refusal}
-use Rattle.rack.proofs.Logic.{and-left, and-right}
+use Rattle.rack.proofs.Logic.{and-left, and-right, by-bool}
 use Rattle.rack.proofs.Lists.{same-eq, same-self}
 use Rattle.rack.proofs.Refusals.{cond-zero}
-use Rattle.rack.proofs.Bits.{bits-value-number}
 use Rattle.rack.proofs.Accepted.{Accepted, accepted-inside}
 use Rattle.rack.proofs.WiringFile.{Fits}
-use Rattle.planner.specs.PlanBytes.{address-size, plan-bytes}
-use Rattle.planner.proofs.PlanBytes.{bit-inside, length-plan, written-cards, written-links, written-columns, written-wiring, written-byte}
-use Rattle.reader.specs.Plan.{most-columns, plan-cards, plan-links, plan-columns, layout-holds, plan-wiring, content-holds, plan-refusal, plan-bit}
+use Rattle.planner.specs.PlanBytes.{plan-bytes}
+use Rattle.planner.proofs.PlanBytes.{length-plan, written-cards, written-links, written-columns, written-wiring}
+use Rattle.rack.specs.PlanFile.{plan-cards, plan-links, plan-columns, plan-wiring, address-size}
+use Rattle.reader.specs.Plan.{layout-holds, content-holds, plan-refusal}
+use Rattle.reader.specs.Reading.{Laid-out}
 
--- THE LAYOUT
-pub record Layout (ps : List ℕ) : Type 0 where
-  pub head : 6 ≤ length ps
-  pub some : 1 ≤ plan-cards ps
-  pub cards : plan-cards ps ≤ most-cards
-  pub links : plan-links ps ≤ most-links
-  pub columns : plan-columns ps ≤ most-columns
-  pub long : length ps ≡ 6 + 4 * plan-links ps + plan-cards ps * address-size (plan-columns ps)
+-- THE LAYOUT: the test holds exactly with the facts of `Laid-out`, at the sizes that the plan has
+abbrev pub Layout : List ℕ → Type 0
+Layout ps = Laid-out ps (plan-cards ps) (plan-links ps) (plan-columns ps)
 
 module _ (ps : List ℕ) where
   abbrev long-test : Bool
@@ -48,25 +44,37 @@ module _ (ps : List ℕ) where
       let h₃ = and-left t₃ (leb (plan-links ps) most-links) h₄ in
       let h₂ = and-left t₂ (leb (plan-cards ps) most-cards) h₃ in
       record {
-        head = leb-true 6 (length ps) (and-left t₁ (leb 1 (plan-cards ps)) h₂);
+        cards = refl;
+        links = refl;
+        columns = refl;
         some = leb-true 1 (plan-cards ps) (and-right t₁ (leb 1 (plan-cards ps)) h₂);
-        cards = leb-true (plan-cards ps) most-cards (and-right t₂ (leb (plan-cards ps) most-cards) h₃);
-        links = leb-true (plan-links ps) most-links (and-right t₃ (leb (plan-links ps) most-links) h₄);
-        columns = leb-true (plan-columns ps) most-columns (and-right t₄ (leb (plan-columns ps) most-columns) h₅);
+        few = leb-true (plan-cards ps) most-cards (and-right t₂ (leb (plan-cards ps) most-cards) h₃);
+        few-links = leb-true (plan-links ps) most-links (and-right t₃ (leb (plan-links ps) most-links) h₄);
+        few-columns = leb-true (plan-columns ps) most-columns (and-right t₄ (leb (plan-columns ps) most-columns) h₅);
         long = eqb-true (length ps) (6 + 4 * plan-links ps + plan-cards ps * address-size (plan-columns ps)) (and-right t₅ long-test h);
       }
+
+  pub layout-head : Layout ps → 6 ≤ length ps
+  layout-head z = omega (arith, z .long)
 
   pub facts-layout : Layout ps → layout-holds ps ≡ true
   unfolding layout-holds
   facts-layout z =
       rw (
-        le-leb 6 (length ps) (z .head),
+        le-leb 6 (length ps) (layout-head z),
         le-leb 1 (plan-cards ps) (z .some),
-        le-leb (plan-cards ps) most-cards (z .cards),
-        le-leb (plan-links ps) most-links (z .links),
-        le-leb (plan-columns ps) most-columns (z .columns),
+        le-leb (plan-cards ps) most-cards (z .few),
+        le-leb (plan-links ps) most-links (z .few-links),
+        le-leb (plan-columns ps) most-columns (z .few-columns),
         eq-eqb (length ps) (6 + 4 * plan-links ps + plan-cards ps * address-size (plan-columns ps)) (z .long),
       ) refl
+
+  -- whoever has read the sizes has the same facts of what was read
+  pub layout-read : (n m k : ℕ) → n ≡ plan-cards ps → m ≡ plan-links ps → k ≡ plan-columns ps → Layout ps → Laid-out ps n m k
+  layout-read n m k en em ek z = rw (en, em, ek) z
+
+  pub read-layout : (n m k : ℕ) → Laid-out ps n m k → Layout ps
+  read-layout n m k z = rw (← z .cards, ← z .links, ← z .columns) z
 
   -- A PLAN THAT WAS READ
   pub plan-clear : plan-refusal ps ≡ 0 → (layout-holds ps ≡ true) × (wiring-refusal (plan-wiring ps) .number ≡ 0) × (plan-bytes (plan-wiring ps) ≡ ps)
@@ -86,6 +94,15 @@ module _ (ps : List ℕ) where
   pub clear-plan : layout-holds ps ≡ true → wiring-refusal (plan-wiring ps) .number ≡ 0 → plan-bytes (plan-wiring ps) ≡ ps → plan-refusal ps ≡ 0
   unfolding plan-refusal content-holds
   clear-plan l h e = rw (l, eq-eqb (wiring-refusal (plan-wiring ps) .number) 0 h, e, same-self eqb (λ x. eq-eqb x x refl) ps) refl
+
+  -- 12 and 13 are all
+  pub plan-refusal-most : plan-refusal ps ≤ 13
+  unfolding plan-refusal
+  plan-refusal-most =
+      by-bool (layout-holds ps)
+      (λ (l : layout-holds ps ≡ true). by-bool (content-holds ps)
+      (λ (h : content-holds ps ≡ true). rw (l, h) (omega arith)) (λ (h : content-holds ps ≡ false). rw (l, h) (omega arith)))
+      (λ (l : layout-holds ps ≡ false). rw l (omega arith))
 
 -- THE PLAN OF AN ACCEPTED WIRING is read
 module _ (w : Wiring) (a : Accepted w) (high : w .cards ≤ most-cards) (few-links : link-count w ≤ most-links) where
@@ -107,11 +124,13 @@ module _ (w : Wiring) (a : Accepted w) (high : w .cards ≤ most-cards) (few-lin
       let m = written-links w (omega arith) in
       let k = written-columns w columns-fit in
       record {
-        head = omega (arith, length-plan w);
+        cards = refl;
+        links = refl;
+        columns = refl;
         some = omega (arith, a .rack .some);
-        cards = omega arith;
-        links = omega arith;
-        columns = omega (arith, a .few);
+        few = omega arith;
+        few-links = omega arith;
+        few-columns = omega (arith, a .few);
         long = rw (n, m, k) (length-plan w);
       }
 
@@ -119,17 +138,3 @@ module _ (w : Wiring) (a : Accepted w) (high : w .cards ≤ most-cards) (few-lin
   plan-read h =
       let e = written-wiring w accepted-fits in
       (clear-plan (plan-bytes w) (facts-layout (plan-bytes w) layout-written) (rw e h) (ap plan-bytes e), e)
-
-  -- its bits are the addresses'
-  pub written-bit : (c j : ℕ) → c < w .cards → j < column-count w → plan-bit (plan-bytes w) c j ≡ address w c j
-  unfolding plan-bit
-  written-bit c j hc hj =
-      let e : 8 * (j / 8) + j % 8 ≡ j = omega arith in
-      rw (
-        written-links w (omega arith),
-        written-columns w columns-fit,
-        written-byte w c (j / 8) hc (bit-inside (column-count w) j hj),
-        bits-value-number 8 (λ i. address w c (8 * (j / 8) + i)) (j % 8) (omega arith),
-        e,
-      )
-      refl

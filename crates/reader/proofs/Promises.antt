@@ -1,6 +1,7 @@
 -- The promises of specs/Promises.antt, proved. Assumes nothing.
 use mathlib.Core.Path.{_≡_, refl, sym, ap, _∙_, subst}
 use mathlib.Core.Bool.{true, false}
+use mathlib.Core.Logic.{_≢_}
 use mathlib.Core.List.{List}
 use Prim.Native.Nat.{ℕ, _-_, _≤_, _<_}
 use native.Mathlib.Omega.{arith}
@@ -10,22 +11,26 @@ use lib.Seq.{take-at}
 use borrow.Author.Tests.{eq-eqb}
 use Rattle.rack.specs.Wiring.{Wiring, link-count}
 use Rattle.rack.specs.Hops.{hops}
-use Rattle.rack.specs.WiringFile.{most-cards, most-links, file-wiring, file-refusal, file-bytes}
+use Rattle.rack.specs.Limits.{most-cards, most-links, lent-plan}
+use Rattle.rack.specs.WiringFile.{file-wiring, file-refusal, file-bytes}
 use Rattle.rack.specs.Columns.{column-count, address}
-use Rattle.rack.proofs.Logic.{by-bool}
+use Rattle.rack.proofs.Logic.{by-bool, by-eq, by-lt}
 use Rattle.rack.proofs.Hamming.{hamming-ext}
 use Rattle.rack.proofs.Hops.{connected-all}
 use Rattle.rack.proofs.Accepted.{Accepted, wiring-accepted, accepted-inside, file-clear, clear-file}
 use Rattle.rack.proofs.WiringFile.{Fits, wiring-at-cards, wiring-at-count, file-bytes-wiring, file-bytes-sized, sized-clear}
-use Rattle.planner.specs.PlanBytes.{address-size, plan-bytes}
-use Rattle.planner.specs.Planning.{lent-plan, left-in, writing-refusal, Write-says}
+use Rattle.planner.specs.PlanBytes.{plan-bytes}
+use Rattle.planner.specs.Planning.{left-in, writing-refusal, Write-says}
 use Rattle.planner.specs.declared.Answer.{Answer}
-use Rattle.planner.proofs.PlanBytes.{written-columns}
-use Rattle.reader.specs.Plan.{plan-cards, plan-columns, plan-wiring, plan-refusal, plan-bit, plan-hamming}
-use Rattle.reader.specs.Promises.{Read-exactly, Calls-agree, Layout-in-range, Address-fits, Measured, Reader-promise}
-use Rattle.reader.specs.Reading.{Read-says}
+use Rattle.planner.proofs.PlanBytes.{written-columns, written-bit}
+use Rattle.rack.specs.PlanFile.{plan-cards, plan-columns, plan-wiring, plan-bit, plan-hamming, address-size}
+use Rattle.reader.specs.Plan.{plan-refusal}
+use Rattle.reader.specs.Promises.{Read-exactly, Calls-agree, Layout-in-range, Address-fits, Measured, Reader-promise, Refused-address-empty}
+use Rattle.reader.specs.Promises.{No-such-card}
+use Rattle.reader.specs.Reading.{Read-says, address-refusal}
 use Rattle.reader.specs.declared.layout.Sizes.{Sizes}
-use Rattle.reader.proofs.Plan.{Layout, layout-facts, facts-layout, plan-clear, plan-read, accepted-fits, written-bit}
+use Rattle.reader.proofs.Plan.{Layout, layout-facts, facts-layout, plan-clear, plan-read, accepted-fits, layout-head, plan-refusal-most}
+use Rattle.reader.proofs.AddressPart.{plan-refused, card-refused, card-clear, refused-part}
 
 -- A PLAN THAT WAS READ has an accepted wiring inside, and is its plan
 module _ (ps : List ℕ) (h : plan-refusal ps ≡ 0) where
@@ -39,10 +44,10 @@ module _ (ps : List ℕ) (h : plan-refusal ps ≡ 0) where
   read-accepted = wiring-accepted inner (omega (arith, layout .some, wiring-at-cards 6 ps)) (plan-clear ps h .1)
 
   few-cards : inner .cards ≤ most-cards
-  few-cards = omega (arith, layout .cards, wiring-at-cards 6 ps)
+  few-cards = omega (arith, layout .few, wiring-at-cards 6 ps)
 
   few-links : link-count inner ≤ most-links
-  few-links = omega (arith, layout .links, wiring-at-count 6 ps)
+  few-links = omega (arith, layout .few-links, wiring-at-count 6 ps)
 
   fits : Fits inner
   fits = accepted-fits inner read-accepted few-cards few-links
@@ -53,12 +58,18 @@ module _ (ps : List ℕ) (h : plan-refusal ps ≡ 0) where
       let z = sized-clear (file-bytes inner) (file-bytes-sized inner fits (omega (arith, read-accepted .rack .some)) few-cards few-links) in
       (clear-file (file-bytes inner) z (rw e (plan-clear ps h .1)), e, plan-clear ps h .2)
 
+  links-fit : link-count inner < 65536
+  links-fit = omega (arith, few-links)
+
+  columns-fit : column-count inner < 65536
+  columns-fit = omega (arith, read-accepted .few, few-cards)
+
   pub read-columns : plan-columns ps ≡ column-count inner
-  read-columns = subst (λ (qs : List ℕ). plan-columns qs ≡ column-count inner) (plan-clear ps h .2) (written-columns inner (omega (arith, read-accepted .few, few-cards)))
+  read-columns = subst (λ (qs : List ℕ). plan-columns qs ≡ column-count inner) (plan-clear ps h .2) (written-columns inner columns-fit)
 
   pub read-bit : (c j : ℕ) → c < inner .cards → j < column-count inner → plan-bit ps c j ≡ address inner c j
   read-bit c j hc hj =
-      subst (λ (qs : List ℕ). plan-bit qs c j ≡ address inner c j) (plan-clear ps h .2) (written-bit inner read-accepted few-cards few-links c j hc hj)
+      subst (λ (qs : List ℕ). plan-bit qs c j ≡ address inner c j) (plan-clear ps h .2) (written-bit inner links-fit columns-fit c j hc hj)
 
   read-hamming : (a b : ℕ) → a < inner .cards → b < inner .cards → plan-hamming ps a b ≡ hops inner a b
   unfolding plan-hamming
@@ -84,13 +95,29 @@ reader-promise ps h = read-measured ps h
 pub layout-in-range : Layout-in-range
 unfolding Layout-in-range
 layout-in-range ps = (
-  (λ h. let z = layout-facts ps h in (z .head, z .some, z .cards, z .links, z .columns, z .long)),
-  λ z. facts-layout ps (record { head = z .0; some = z .1; cards = z .2; links = z .3; columns = z .4; long = z .5 }),
+  (λ h. let z = layout-facts ps h in (layout-head ps z, z .some, z .few, z .few-links, z .few-columns, z .long)),
+  λ z. facts-layout ps
+      (record { cards = refl; links = refl; columns = refl; some = z .1; few = z .2; few-links = z .3; few-columns = z .4; long = z .5 }),
 )
 
 pub address-fits : Address-fits
 unfolding Address-fits address-size
 address-fits k = (omega arith, omega arith)
+
+pub refused-address-empty : Refused-address-empty
+unfolding Refused-address-empty
+refused-address-empty ps c n = refused-part ps c n .1
+
+pub no-such-card : No-such-card
+unfolding No-such-card
+no-such-card ps c = (outside, λ z. card-refused ps c (z .0) (z .1))
+  where
+    outside : address-refusal ps c ≡ 14 → (plan-refusal ps ≡ 0) × (plan-cards ps ≤ c)
+    outside h =
+        by-eq (plan-refusal ps) 0
+        (λ (e : plan-refusal ps ≡ 0).
+        (e, by-lt c (plan-cards ps) (λ (l : c < plan-cards ps). absurd (omega (arith, h, card-clear ps c e l))) (λ (l : plan-cards ps ≤ c). l)))
+        (λ (n : plan-refusal ps ≢ 0). absurd (omega (arith, h, plan-refused ps c n, plan-refusal-most ps)))
 
 written-read : (bs : List ℕ) → file-refusal bs .number ≡ 0 → (plan-refusal (plan-bytes (file-wiring bs)) ≡ 0) × (plan-wiring (plan-bytes (file-wiring bs)) ≡ file-wiring bs)
 written-read bs h =

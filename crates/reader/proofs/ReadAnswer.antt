@@ -14,9 +14,11 @@ use Rattle.rack.specs.Refusals.{Refusal, wiring-refusal}
 use Rattle.rack.proofs.Logic.{by-bool, not-true-false}
 use Rattle.rack.proofs.Lists.{same-eq}
 use Rattle.planner.specs.PlanBytes.{plan-bytes}
-use Rattle.planner.specs.Planning.{lent-plan, left-in, writing-refusal, Write-says}
+use Rattle.rack.specs.Limits.{lent-plan}
+use Rattle.planner.specs.Planning.{left-in, writing-refusal, Write-says}
 use Rattle.planner.specs.declared.Answer.{Answer}
-use Rattle.reader.specs.Plan.{layout-holds, plan-wiring, content-holds, plan-refusal}
+use Rattle.rack.specs.PlanFile.{plan-wiring}
+use Rattle.reader.specs.Plan.{layout-holds, content-holds, plan-refusal}
 use Rattle.reader.specs.Promises.{Measured}
 use Rattle.reader.specs.Reading.{Sizes-say, layout-refusal, Layout-says, Read-says}
 use Rattle.reader.specs.declared.layout.Sizes.{Sizes}

@@ -1,18 +1,20 @@
 -- What is promised of reading a plan. Each statement is proved in proofs/Promises.antt under its name.
 use mathlib.Core.Path.{_≡_}
 use mathlib.Core.Bool.{true}
-use mathlib.Core.List.{List}
-use mathlib.Core.Logic.{_↔_}
+use mathlib.Core.List.{List, []}
+use mathlib.Core.Logic.{_↔_, _≢_}
 use Prim.Native.Nat.{ℕ, _+_, _*_, _≤_, _<_}
 use lib.ListN.{length, take}
+use Rattle.rack.specs.Limits.{lent-plan}
 use Rattle.rack.specs.Wiring.{link-count, link-at}
 use Rattle.rack.specs.Hops.{hops}
 use Rattle.rack.specs.WiringFile.{file-wiring, file-refusal, file-bytes}
-use Rattle.planner.specs.PlanBytes.{address-size, plan-bytes}
+use Rattle.planner.specs.PlanBytes.{plan-bytes}
 use Rattle.planner.specs.Planning.{Write-says}
 use Rattle.planner.specs.declared.Answer.{Answer}
-use Rattle.reader.specs.Plan.{plan-cards, plan-links, plan-columns, plan-wiring, layout-holds, plan-refusal, plan-hamming}
-use Rattle.reader.specs.Reading.{Read-says}
+use Rattle.rack.specs.PlanFile.{plan-cards, plan-links, plan-columns, plan-wiring, plan-hamming, address-size}
+use Rattle.reader.specs.Plan.{layout-holds, plan-refusal}
+use Rattle.reader.specs.Reading.{Read-says, address-refusal, address-part}
 use Rattle.reader.specs.declared.layout.Sizes.{Sizes}
 
 -- "A plan file is read exactly if it is the one that the planner writes for the wiring inside it": that wiring is accepted;
@@ -32,7 +34,7 @@ Calls-agree =
     ((bs output output-now : List ℕ) (a : Answer) (s : Sizes) → Write-says bs a output output-now → a .number ≡ 0 →
     let ps = take (a .value) output-now in
     Read-says ps s → (s .number ≡ 0) × (plan-wiring ps ≡ file-wiring bs))
-    × ((ps output output-now : List ℕ) (a : Answer) (s : Sizes) → Read-says ps s → s .number ≡ 0 → length output ≡ 16390 →
+    × ((ps output output-now : List ℕ) (a : Answer) (s : Sizes) → Read-says ps s → s .number ≡ 0 → length output ≡ lent-plan →
     Write-says (file-bytes (plan-wiring ps)) a output output-now → (a .number ≡ 0) × (take (a .value) output-now ≡ ps))
 
 -- 12: it does not apply exactly if the sizes are in their ranges and give the plan's length
@@ -58,3 +60,11 @@ pub record Measured (ps : List ℕ) : Type 0 where
 
 unfoldable pub Reader-promise : Type 0
 Reader-promise = (ps : List ℕ) → plan-refusal ps ≡ 0 → Measured ps
+
+-- "With a refusal the part is empty and the number is told beside it"
+unfoldable pub Refused-address-empty : Type 0
+Refused-address-empty = (ps : List ℕ) (c : ℕ) → address-refusal ps c ≢ 0 → address-part ps c ≡ []
+
+-- 14: exactly of a plan that was read, and a card number that is n or more
+unfoldable pub No-such-card : Type 0
+No-such-card = (ps : List ℕ) (c : ℕ) → (address-refusal ps c ≡ 14) ↔ ((plan-refusal ps ≡ 0) × (plan-cards ps ≤ c))

@@ -5,10 +5,11 @@ use mathlib.Core.List.{List, []}
 use Prim.Native.Nat.{ℕ, _+_, _*_, _/_, _%_, _≤_}
 use lib.Dec.{leb, eqb}
 use lib.ListN.{length, getD, take, drop}
+use denote.Ref.{RefT, now}
 use Rattle.rack.specs.Bits.{number-bit}
-use Rattle.rack.specs.WiringFile.{most-cards, most-links}
-use Rattle.planner.specs.PlanBytes.{address-size}
-use Rattle.reader.specs.Plan.{most-columns, plan-cards, plan-links, plan-columns, layout-holds, plan-refusal}
+use Rattle.rack.specs.Limits.{most-cards, most-links, most-columns}
+use Rattle.rack.specs.PlanFile.{plan-cards, plan-links, plan-columns, address-size, addresses-start, address-start}
+use Rattle.reader.specs.Plan.{layout-holds, plan-refusal}
 use Rattle.reader.specs.declared.layout.Sizes.{Sizes}
 
 -- the sizes of a plan that passed 12
@@ -20,7 +21,7 @@ pub record Laid-out (ps : List ℕ) (n m k : ℕ) : Type 0 where
   pub few : n ≤ most-cards
   pub few-links : m ≤ most-links
   pub few-columns : k ≤ most-columns
-  pub long : length ps ≡ 6 + 4 * m + n * address-size k
+  pub long : length ps ≡ addresses-start m + n * address-size k
 
 -- bit j of the bytes from a place on
 unfoldable pub bit-from : List ℕ → (at j : ℕ) → Bool
@@ -48,6 +49,17 @@ unfoldable pub address-refusal : List ℕ → (card : ℕ) → ℕ
 address-refusal ps c = cond (eqb (plan-refusal ps) 0) (cond (leb (plan-cards ps) c) 14 0) (plan-refusal ps)
 
 unfoldable pub address-part : List ℕ → (card : ℕ) → List ℕ
-address-part ps c =
-    cond (eqb (address-refusal ps c) 0)
-    (take (address-size (plan-columns ps)) (drop (6 + 4 * plan-links ps + c * address-size (plan-columns ps)) ps)) []
+address-part ps c = cond (eqb (address-refusal ps c) 0) (take (address-size (plan-columns ps)) (drop (address-start ps c) ps)) []
+
+-- how far behind the plan's first byte that part begins; with a refusal nothing is handed out, from the plan's first byte on
+unfoldable pub address-offset : List ℕ → (card : ℕ) → ℕ
+address-offset ps c = cond (eqb (address-refusal ps c) 0) (address-start ps c) 0
+
+-- the slice that begins at this place, a block of memory and an offset in it, and has these bytes
+pub record Slice-is (at : ℕ × ℕ) (bs : List ℕ) (r : RefT (List ℕ)) : Type 0 where
+  pub place : r .ptr ≡ at
+  pub bytes : now r ≡ bs
+
+-- "A card's address is handed out as that part of the plan's own bytes": of those of a plan that begins at this place
+abbrev pub Address-says : (ps : List ℕ) (at : ℕ × ℕ) (card : ℕ) → RefT (List ℕ) → Type 0
+Address-says ps at c r = Slice-is (at .0, address-offset ps c + at .1) (address-part ps c) r

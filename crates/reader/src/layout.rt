@@ -3,6 +3,9 @@ ghost use mathlib.Core.List.{List};
 ghost use Prim.Native.Nat.{ℕ};
 ghost use Rattle.reader.specs.Reading.{Layout-says, Sizes-say};
 use rack::bytes::number_at;
+use rack::limits::MOST_CARDS;
+use rack::limits::MOST_COLUMNS;
+use rack::limits::MOST_LINKS;
 
 // A refusal's number, 0 for none, and with 0 a plan's sizes.
 pub struct Sizes {
@@ -37,13 +40,13 @@ pub fn plan_layout(plan: &[u8]) -> Sizes
     if n == 0 {
         return no_layout();
     }
-    if 256 < n {
+    if MOST_CARDS < n {
         return no_layout();
     }
-    if 2048 < m {
+    if MOST_LINKS < m {
         return no_layout();
     }
-    if 255 < k {
+    if MOST_COLUMNS < k {
         return no_layout();
     }
     if plan.len() != 6 + 4 * m + n * ((k + 7) / 8) {

@@ -5,7 +5,7 @@ ghost use lib.ListN.{length};
 ghost use Rattle.rack.specs.Bits.{number-bit};
 ghost use Rattle.rack.specs.Columns.{hamming};
 ghost use Rattle.rack.specs.Ones.{Counts};
-ghost use Rattle.reader.specs.Plan.{plan-hamming};
+ghost use Rattle.rack.specs.PlanFile.{plan-hamming};
 ghost use Rattle.reader.specs.Reading.{Laid-out, bit-from};
 use rack::places::byte_hamming;
 
@@ -43,8 +43,7 @@ pub fn plan_hamming(
     b: usize,
 ) -> u32
     requires { ⌜ Counts (now ones) × Laid-out (now plan) n m k × (a < n) × (b < n) ⌝ }
-    ensures is { λ r. ⌜ r ≡ plan-hamming (now (plan .entry)) a b ⌝ }
-    ensures few { λ r. ⌜ r ≤ k ⌝ }
+    ensures { λ r. ⌜ r ≡ plan-hamming (now (plan .entry)) a b ⌝ }
 {
     let each = (k + 7) / 8;
     let first = 6 + 4 * m + a * each;

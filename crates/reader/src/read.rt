@@ -6,10 +6,11 @@ ghost use mathlib.Core.Bool.{true};
 ghost use mathlib.Core.List.{_++_};
 ghost use lib.ListN.{length, take, drop, replicate};
 ghost use Rattle.rack.specs.Lists.{same};
-ghost use Rattle.planner.specs.Writing.{Appends};
-ghost use Rattle.reader.specs.Plan.{content-holds, layout-holds, plan-links};
+ghost use Rattle.rack.specs.Buffers.{Appends};
+ghost use Rattle.rack.specs.PlanFile.{plan-links};
+ghost use Rattle.reader.specs.Plan.{content-holds, layout-holds};
 ghost use Rattle.reader.specs.Promises.{Measured};
-ghost use Rattle.reader.specs.Reading.{Read-says, address-part, address-refusal};
+ghost use Rattle.reader.specs.Reading.{Read-says, Address-says, address-refusal};
 use crate::layout::Sizes;
 use crate::layout::plan_layout;
 use planner::write_plan;
@@ -91,7 +92,7 @@ pub fn read_plan(plan: &[u8]) -> Sizes
 
 // A card's address, as that part of the plan's own bytes; empty with a refusal: 12, 13, 14, with its number in `number`.
 pub fn card_address<'a>(plan: &'a [u8], card: u32, number: &mut u32) -> &'a [u8]
-    ensures part { λ r. ⌜ now r ≡ address-part (now (plan .entry)) card ⌝ }
+    ensures part { λ r. ⌜ Address-says (now (plan .entry)) (plan .entry .ptr) card r ⌝ }
     ensures refusal { λ r. ⌜ now (number .exit) ≡ address-refusal (now (plan .entry)) card ⌝ }
 {
     let sizes = read_plan(plan);

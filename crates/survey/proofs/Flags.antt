@@ -22,7 +22,7 @@ use Rattle.rack.proofs.Paths.{Ends, Changes, linked-link, link-joins, linked-sy
 use Rattle.rack.proofs.Hops.{hops-le, hops-path, path-below, hops-self, zero-connected}
 use Rattle.survey.specs.Formed.{Sizes-are, Formed}
 use Rattle.survey.specs.Flags.{flags, Flagged, Spread, Reached}
-use Rattle.survey.proofs.Zeros.{zeros-long, zeros-at}
+use Rattle.rack.proofs.Zeros.{zeros-long, zeros-at}
 use Rattle.survey.proofs.Forms.{cards-are, links-are}
 
 -- COUNTS of flags

@@ -10,7 +10,9 @@ use borrow.Author.Tests.{lt-ltb, le-ltb, le-leb, lt-leb, ne-eqb}
 use Rattle.rack.specs.Wiring.{Link, link, link-count, link-at, linked}
 use Rattle.rack.specs.Hops.{connected}
 use Rattle.rack.specs.Refusals.{Refusal, refusal, link-fault, links-refusal}
-use Rattle.rack.specs.WiringFile.{most-cards, most-links, number-at, file-wiring, sizes-fault}
+use Rattle.rack.specs.Limits.{most-cards, most-links}
+use Rattle.rack.specs.Buffers.{number-at}
+use Rattle.rack.specs.WiringFile.{file-wiring, sizes-fault}
 use Rattle.rack.proofs.Lists.{In, in-getD, getD-in}
 use Rattle.rack.proofs.Paths.{link-joins}
 use Rattle.rack.proofs.Crossing.{Rack}

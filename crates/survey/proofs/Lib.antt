@@ -1,4 +1,3 @@
-pub mod Zeros
 pub mod Forms
 pub mod Marks
 pub mod Flags

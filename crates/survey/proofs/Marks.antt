@@ -19,7 +19,7 @@ use Rattle.rack.proofs.Paths.{joins-ends, ends-join}
 use Rattle.rack.proofs.Refusals.{lowest-fault-none, lowest-fault-is, clear-link-fault}
 use Rattle.survey.specs.Tables.{cell}
 use Rattle.survey.specs.Marks.{Marked}
-use Rattle.survey.proofs.Zeros.{zeros-long, zeros-at}
+use Rattle.rack.proofs.Zeros.{zeros-long, zeros-at}
 
 -- MARKS
 pub none-marked : (w : Wiring) (h : List ℕ) → h ≡ replicate 65536 0 → Marked w 0 h

@@ -6,6 +6,7 @@ use mathlib.Core.List.{List}
 use Prim.Native.Nat.{ℕ, _+_, _≤_, _<_}
 use lib.Dec.{eqb}
 use lib.ListN.{length, getD}
+use Rattle.rack.specs.Limits.{lent-hops}
 use Rattle.rack.specs.Lists.{count, range}
 use Rattle.rack.specs.Wiring.{Wiring, link-at}
 use Rattle.rack.specs.Hops.{hops}
@@ -16,7 +17,7 @@ flags s = count (λ c. not (eqb (getD s c 0) 0)) (range 256)
 
 -- 1 at card 0 and at some cards that can be reached from it, else 0
 pub record Flagged (w : Wiring) (s : List ℕ) : Type 0 where
-  pub long : length s ≡ 65536
+  pub long : length s ≡ lent-hops
   pub flag : (c : ℕ) → getD s c 0 ≤ 1
   pub start : getD s 0 0 ≡ 1
   pub real : (c : ℕ) → c < w .cards → getD s c 0 ≢ 0 → hops w 0 c < w .cards
@@ -30,6 +31,6 @@ pub record Spread (w : Wiring) (old new : List ℕ) (from upto moved : ℕ) : Ty
 
 -- the flags are those of the cards that can be reached
 pub record Reached (w : Wiring) (s : List ℕ) : Type 0 where
-  pub long : length s ≡ 65536
+  pub long : length s ≡ lent-hops
   pub reach : (c : ℕ) → c < w .cards → getD s c 0 ≢ 0 → hops w 0 c < w .cards
   pub apart : (c : ℕ) → c < w .cards → getD s c 0 ≡ 0 → hops w 0 c ≡ w .cards

@@ -5,7 +5,9 @@ use mathlib.Core.List.{List}
 use Prim.Native.Nat.{ℕ, _+_, _*_, _≤_, _<_}
 use lib.ListN.{length}
 use Rattle.rack.specs.Wiring.{link-at}
-use Rattle.rack.specs.WiringFile.{most-cards, most-links, number-at, file-wiring}
+use Rattle.rack.specs.Limits.{most-cards, most-links}
+use Rattle.rack.specs.Buffers.{number-at}
+use Rattle.rack.specs.WiringFile.{file-wiring}
 use Rattle.rack.specs.Refusals.{Refusal}
 use Rattle.survey.specs.declared.links.Fault.{Fault}
 

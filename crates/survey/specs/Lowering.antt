@@ -5,6 +5,7 @@ use mathlib.Core.List.{List}
 use Prim.Native.Nat.{ℕ, _+_, _*_, _-_, _≤_, _<_, min}
 use lib.Dec.{ltb, leb, eqb}
 use lib.ListN.{length, getD}
+use Rattle.rack.specs.Limits.{lent-hops}
 use Rattle.rack.specs.Wiring.{Wiring, link-at}
 use Rattle.rack.specs.Hops.{hops}
 use Rattle.survey.specs.Tables.{cell, total}
@@ -20,7 +21,7 @@ pub record Lowered (old new : List ℕ) (to by upto off : ℕ) : Type 0 where
 
 -- an upper bound of hops at each pair of cards, and 0 elsewhere
 pub record Above (w : Wiring) (h : List ℕ) : Type 0 where
-  pub long : length h ≡ 65536
+  pub long : length h ≡ lent-hops
   pub over : (a b : ℕ) → a < w .cards → b < w .cards → hops w a b ≤ cell h a b
   pub most : (a b : ℕ) → a < w .cards → b < w .cards → cell h a b ≤ w .cards
   pub self : (a : ℕ) → a < w .cards → cell h a a ≡ 0
@@ -64,5 +65,5 @@ first-bound n a b = cond (eqb a b) 0 (place-bound n (row-bound n a) b)
 
 -- the rows below `upto` hold them
 pub record Started (n : ℕ) (h : List ℕ) (upto : ℕ) : Type 0 where
-  pub long : length h ≡ 65536
+  pub long : length h ≡ lent-hops
   pub is : (a b : ℕ) → b < 256 → a < upto → cell h a b ≡ first-bound n a b

@@ -3,6 +3,7 @@ use mathlib.Core.Path.{_≡_}
 use mathlib.Core.List.{List, [], _∷_}
 use Prim.Native.Nat.{ℕ, _+_, _*_, _≤_, _<_}
 use lib.ListN.{length, getD}
+use Rattle.rack.specs.Limits.{lent-hops}
 use Rattle.rack.specs.Wiring.{Wiring}
 use Rattle.rack.specs.Hops.{hops}
 
@@ -17,7 +18,7 @@ total (x ∷ xs) = x + total xs
 
 -- the hops between all cards, and 0 elsewhere
 pub record Hops-in (w : Wiring) (h : List ℕ) : Type 0 where
-  pub long : length h ≡ 65536
+  pub long : length h ≡ lent-hops
   pub is : (a b : ℕ) → a < w .cards → b < w .cards → cell h a b ≡ hops w a b
   pub rows : (a b : ℕ) → b < 256 → w .cards ≤ a → cell h a b ≡ 0
   pub places : (a b : ℕ) → b < 256 → w .cards ≤ b → cell h a b ≡ 0

@@ -3,6 +3,7 @@ ghost use mathlib.Core.Path.{_≡_};
 ghost use mathlib.Core.Bool.{true};
 ghost use Prim.Native.Nat.{_+_, _<_, _≤_, min, max};
 ghost use lib.ListN.{length};
+ghost use Rattle.rack.specs.Limits.{lent-hops, most-cards};
 ghost use Rattle.rack.specs.Hops.{connected};
 ghost use Rattle.rack.specs.WiringFile.{file-wiring};
 ghost use Rattle.rack.specs.Refusals.{parity-refusal};
@@ -13,6 +14,8 @@ use crate::links::Fault;
 use crate::order::wide;
 use rack::bytes::first_end;
 use rack::bytes::second_end;
+use rack::limits::MOST_CARDS;
+use rack::limits::MOST_LINKS;
 
 // The lesser of `x` and one more than `y`.
 fn lesser(x: u8, y: u8) -> u8
@@ -29,12 +32,12 @@ fn larger(x: u8, y: u8) -> u8
 
 // Lowers row `to` to one more than row `by` where that is less; gives the most that was taken off at one place.
 fn lower_row(bounds: &mut [u8], to: usize, by: usize) -> u8
-    requires { ⌜ (length (now bounds) ≡ 65536) × (to < 256) × (by < 256) ⌝ }
+    requires { ⌜ (length (now bounds) ≡ lent-hops) × (to < most-cards) × (by < most-cards) ⌝ }
     ensures { λ r. ⌜ Lowered (now (bounds .entry)) (now (bounds .exit)) to by 256 r ⌝ }
 {
     let mut off: u8 = 0;
     let mut b: usize = 0;
-    while b < 256 {
+    while b < MOST_CARDS {
         let x = bounds[256 * to + b];
         let z = lesser(x, bounds[256 * by + b]);
         bounds[256 * to + b] = z;
@@ -82,7 +85,7 @@ fn lower_one(file: &[u8], n: usize, m: usize, i: usize, bounds: &mut [u8])
 }
 
 // Lowers by the links in an order, backwards.
-fn sweep_back(file: &[u8], n: usize, m: usize, order: &[u16; 2048], bounds: &mut [u8])
+fn sweep_back(file: &[u8], n: usize, m: usize, order: &[u16; MOST_LINKS], bounds: &mut [u8])
     requires { ⌜ Formed (now file) n m × Above (file-wiring (now file)) (now bounds) ⌝ }
     ensures { λ _. ⌜ Swept (file-wiring (now (file .entry))) (now (bounds .entry)) (now (bounds .exit)) ⌝ }
 {
@@ -94,7 +97,7 @@ fn sweep_back(file: &[u8], n: usize, m: usize, order: &[u16; 2048], bounds: &mut
 }
 
 // Lowers by the links in an order.
-fn sweep_on(file: &[u8], n: usize, m: usize, order: &[u16; 2048], bounds: &mut [u8])
+fn sweep_on(file: &[u8], n: usize, m: usize, order: &[u16; MOST_LINKS], bounds: &mut [u8])
     requires { ⌜ Formed (now file) n m × Above (file-wiring (now file)) (now bounds) ⌝ }
     ensures { λ _. ⌜ Swept (file-wiring (now (file .entry))) (now (bounds .entry)) (now (bounds .exit)) ⌝ }
 {
@@ -105,8 +108,11 @@ fn sweep_on(file: &[u8], n: usize, m: usize, order: &[u16; 2048], bounds: &mut [
     }
 }
 
-// Lowers until no link lowers any bound. The order only saves passes: the last pass, over every link, decides.
-fn settle(file: &[u8], n: usize, m: usize, order: &[u16; 2048], bounds: &mut [u8])
+// Lowers until no link lowers any bound: relaxation, as Bellman and Ford do, over rows of bytes. The order only saves passes: the
+// last pass, over every link, decides. How many: where the bounds of all cards up to d hops apart are hops, they are so for d + 1 after
+// a sweep over every link, since the last link of a shortest path is among them. A round of the loop has three sweeps, so a third of
+// the diameter in rounds is enough, and one round more that lowers nothing: at most 86 for 256 cards.
+fn settle(file: &[u8], n: usize, m: usize, order: &[u16; MOST_LINKS], bounds: &mut [u8])
     requires { ⌜ Formed (now file) n m × Above (file-wiring (now file)) (now bounds) ⌝ }
     ensures { λ _. ⌜ Hops-in (file-wiring (now (file .entry))) (now (bounds .exit)) ⌝ }
 {
@@ -120,7 +126,7 @@ fn settle(file: &[u8], n: usize, m: usize, order: &[u16; 2048], bounds: &mut [u8
 
 // What is known of the hops from card `a` of `n` to another before any link was looked at: fewer than n.
 fn row_bound(n: usize, a: usize) -> u8
-    requires { ⌜ n ≤ 256 ⌝ }
+    requires { ⌜ n ≤ most-cards ⌝ }
     ensures { λ r. ⌜ r ≡ row-bound n a ⌝ }
 {
     if n <= a {
@@ -141,11 +147,11 @@ fn place_bound(n: usize, b: usize, bound: u8) -> u8
 
 // Fills row `a` with a bound at each of the `n` cards.
 fn fill_row(n: usize, a: usize, bound: u8, bounds: &mut [u8])
-    requires { ⌜ (a < 256) × (length (now bounds) ≡ 65536) ⌝ }
+    requires { ⌜ (a < most-cards) × (length (now bounds) ≡ lent-hops) ⌝ }
     ensures { λ _. ⌜ Row-filled n bound (now (bounds .entry)) (now (bounds .exit)) a 256 ⌝ }
 {
     let mut b: usize = 0;
-    while b < 256 {
+    while b < MOST_CARDS {
         bounds[256 * a + b] = place_bound(n, b, bound);
         b += 1;
     }
@@ -153,7 +159,7 @@ fn fill_row(n: usize, a: usize, bound: u8, bounds: &mut [u8])
 
 // Fills row `a` with what is known of it; a card has no hops to itself.
 fn start_row(n: usize, a: usize, bounds: &mut [u8])
-    requires { ⌜ (n ≤ 256) × (a < 256) × Started n (now bounds) a ⌝ }
+    requires { ⌜ (n ≤ most-cards) × (a < most-cards) × Started n (now bounds) a ⌝ }
     ensures { λ _. ⌜ Started n (now (bounds .exit)) (a + 1) ⌝ }
 {
     fill_row(n, a, row_bound(n, a), bounds);
@@ -162,19 +168,19 @@ fn start_row(n: usize, a: usize, bounds: &mut [u8])
 
 // Fills the table with those bounds.
 fn start_bounds(n: usize, bounds: &mut [u8])
-    requires { ⌜ (n ≤ 256) × (length (now bounds) ≡ 65536) ⌝ }
+    requires { ⌜ (n ≤ most-cards) × (length (now bounds) ≡ lent-hops) ⌝ }
     ensures { λ _. ⌜ Started n (now (bounds .exit)) 256 ⌝ }
 {
     let mut a: usize = 0;
-    while a < 256 {
+    while a < MOST_CARDS {
         start_row(n, a, bounds);
         a += 1;
     }
 }
 
 // The hops between all cards of a connected rack.
-pub fn all_hops(file: &[u8], n: usize, m: usize, order: &[u16; 2048], hops: &mut [u8])
-    requires { ⌜ Formed (now file) n m × (connected (file-wiring (now file)) ≡ true) × (length (now hops) ≡ 65536) ⌝ }
+pub fn all_hops(file: &[u8], n: usize, m: usize, order: &[u16; MOST_LINKS], hops: &mut [u8])
+    requires { ⌜ Formed (now file) n m × (connected (file-wiring (now file)) ≡ true) × (length (now hops) ≡ lent-hops) ⌝ }
     ensures { λ _. ⌜ Hops-in (file-wiring (now (file .entry))) (now (hops .exit)) ⌝ }
 {
     start_bounds(n, hops);

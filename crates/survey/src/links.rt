@@ -2,6 +2,7 @@
 ghost use mathlib.Core.Path.{_≡_};
 ghost use Prim.Native.Nat.{_+_, _<_};
 ghost use lib.ListN.{length, replicate};
+ghost use Rattle.rack.specs.Limits.{lent-hops};
 ghost use Rattle.rack.specs.WiringFile.{file-wiring, sizes-fault};
 ghost use Rattle.rack.specs.Refusals.{link-fault, links-refusal};
 ghost use Rattle.survey.specs.Formed.{Fault-is, Sizes-are};
@@ -9,6 +10,8 @@ ghost use Rattle.survey.specs.Marks.{Marked};
 use rack::bytes::first_end;
 use rack::bytes::number_at;
 use rack::bytes::second_end;
+use rack::limits::MOST_CARDS;
+use rack::limits::MOST_LINKS;
 
 // A refusal's number, 0 for none, and the link or card that it carries.
 pub struct Fault {
@@ -30,11 +33,11 @@ pub fn sizes_fault(file: &[u8]) -> u32
     if n == 0 {
         return 3;
     }
-    if 256 < n {
+    if MOST_CARDS < n {
         return 3;
     }
     let m = number_at(file, 2);
-    if 2048 < m {
+    if MOST_LINKS < m {
         return 4;
     }
     if file.len() != 4 + 4 * m {
@@ -71,9 +74,9 @@ fn link_fault(file: &[u8], n: usize, m: usize, i: usize, marks: &mut [u8]) -> u3
 
 // The lowest link in fault, with 6, 7 or 8. The marks are zero at entry.
 pub fn links_fault(file: &[u8], n: usize, m: usize, marks: &mut [u8]) -> Fault
-    requires { ⌜ Sizes-are (now file) n m × (now marks ≡ replicate 65536 0) ⌝ }
+    requires { ⌜ Sizes-are (now file) n m × (now marks ≡ replicate lent-hops 0) ⌝ }
     ensures is { λ r. ⌜ Fault-is r (links-refusal (file-wiring (now (file .entry)))) ⌝ }
-    ensures long { λ r. ⌜ length (now (marks .exit)) ≡ 65536 ⌝ }
+    ensures long { λ r. ⌜ length (now (marks .exit)) ≡ lent-hops ⌝ }
 {
     let mut i: usize = 0;
     while i < m {

@@ -1,6 +1,7 @@
 // Refusal 9: the cards that can be reached from card 0, by flags that spread over the links.
 ghost use mathlib.Core.Path.{_≡_};
 ghost use Prim.Native.Nat.{_+_, _<_, _≤_};
+ghost use Rattle.rack.specs.Limits.{lent-hops, most-cards};
 ghost use Rattle.rack.specs.Wiring.{Wiring};
 ghost use lib.ListN.{length, replicate};
 ghost use Rattle.rack.specs.WiringFile.{file-wiring};
@@ -11,6 +12,7 @@ use crate::links::Fault;
 use crate::order::wide;
 use rack::bytes::first_end;
 use rack::bytes::second_end;
+use rack::limits::MOST_LINKS;
 
 // Flags the other end of link `i` where just one end is flagged; gives how many flags are new.
 fn spread_link(file: &[u8], n: usize, m: usize, i: usize, flags: &mut [u8]) -> usize
@@ -55,7 +57,7 @@ fn spread_one(file: &[u8], n: usize, m: usize, i: usize, flags: &mut [u8])
 }
 
 // Spreads the flags over the links in an order.
-fn spread_order(file: &[u8], n: usize, m: usize, order: &[u16; 2048], flags: &mut [u8])
+fn spread_order(file: &[u8], n: usize, m: usize, order: &[u16; MOST_LINKS], flags: &mut [u8])
     requires { ⌜ Formed (now file) n m × Flagged (file-wiring (now file)) (now flags) ⌝ }
     ensures { λ _. ⌜ Flagged (file-wiring (now (file .entry))) (now (flags .exit)) ⌝ }
 {
@@ -67,8 +69,8 @@ fn spread_order(file: &[u8], n: usize, m: usize, order: &[u16; 2048], flags: &mu
 }
 
 // Flags every card that can be reached from card 0, in a buffer that is zero at entry. The order only saves passes.
-fn reach(file: &[u8], n: usize, m: usize, order: &[u16; 2048], flags: &mut [u8])
-    requires { ⌜ Formed (now file) n m × (now flags ≡ replicate 65536 0) ⌝ }
+fn reach(file: &[u8], n: usize, m: usize, order: &[u16; MOST_LINKS], flags: &mut [u8])
+    requires { ⌜ Formed (now file) n m × (now flags ≡ replicate lent-hops 0) ⌝ }
     ensures { λ _. ⌜ Reached (file-wiring (now (file .entry))) (now (flags .exit)) ⌝ }
 {
     flags[0] = 1;
@@ -81,7 +83,7 @@ fn reach(file: &[u8], n: usize, m: usize, order: &[u16; 2048], flags: &mut [u8])
 
 // The lowest card without a flag, with 9.
 fn first_unflagged(n: usize, flags: &[u8]) -> Fault
-    requires { ⌜ (n ≤ 256) × (length (now flags) ≡ 65536) ⌝ }
+    requires { ⌜ (n ≤ most-cards) × (length (now flags) ≡ lent-hops) ⌝ }
     ensures { λ r. ⌜ ((w : Wiring) → w .cards ≡ n → Reached w (now (flags .entry)) → Fault-is r (reach-refusal w)) ⌝ }
 {
     let mut c: usize = 0;
@@ -98,10 +100,16 @@ fn first_unflagged(n: usize, flags: &[u8]) -> Fault
 }
 
 // The lowest card that can't be reached from card 0, with 9. The flags are zero at entry.
-pub fn reach_fault(file: &[u8], n: usize, m: usize, order: &[u16; 2048], flags: &mut [u8]) -> Fault
-    requires { ⌜ Formed (now file) n m × (now flags ≡ replicate 65536 0) ⌝ }
+pub fn reach_fault(
+    file: &[u8],
+    n: usize,
+    m: usize,
+    order: &[u16; MOST_LINKS],
+    flags: &mut [u8],
+) -> Fault
+    requires { ⌜ Formed (now file) n m × (now flags ≡ replicate lent-hops 0) ⌝ }
     ensures is { λ r. ⌜ Fault-is r (reach-refusal (file-wiring (now (file .entry)))) ⌝ }
-    ensures long { λ r. ⌜ length (now (flags .exit)) ≡ 65536 ⌝ }
+    ensures long { λ r. ⌜ length (now (flags .exit)) ≡ lent-hops ⌝ }
 {
     reach(file, n, m, order, flags);
     first_unflagged(n, flags)

@@ -16,11 +16,11 @@ returns-2 c =
     let z = c .before .before .before .before .before .args in
     no-record-room (z .plan .now) (z .from) (z .to) (z .met .now) (z .«record» .now) (λ e. omega arith)
 
-long-at-requires : tie.Need-long-at-requires
-long-at-requires c κs = search needs
+number32-at-requires : tie.Need-number32-at-requires
+number32-at-requires c κs = search needs
 
-long-at-requires-2 : tie.Need-long-at-requires-2
-long-at-requires-2 c κs = search needs
+number32-at-requires-2 : tie.Need-number32-at-requires-2
+number32-at-requires-2 c κs = search needs
 
 slice-aggregate-walk-frame : tie.Need-slice-aggregate-walk-frame
 slice-aggregate-walk-frame c = search needs
@@ -34,13 +34,13 @@ same-length c = search needs
 returns-3 : tie.Need-returns-3
 returns-3 c =
     let at-walk-frame = c .before .before .before in
-    let at-long-at = at-walk-frame .before .before .before .before in
-    let at-if2 = at-long-at .before .before in
+    let at-number32-at = at-walk-frame .before .before .before .before in
+    let at-if2 = at-number32-at .before .before in
     let at-if1 = at-if2 .before in
     let z = at-if1 .before .before .before .before .args in
     let w = at-walk-frame .walk-frame in
     walk-refused (z .plan .now) (z .from) (z .to) (z .met .now) (z .«record» .now) (omega (arith, at-if1 .if1 .left)) (omega (arith, at-if2 .if2 .left))
-    _ (at-long-at .long-at .ensures) (at-walk-frame .before .before .long-at2 .ensures) (w .result) _ _ refl (w .ensures .0) (w .ensures .1 .0) (w .ensures .1 .1) (λ e. omega arith)
+    _ (at-number32-at .number32-at .ensures) (at-walk-frame .before .before .number32-at2 .ensures) (w .result) _ _ refl (w .ensures .0) (w .ensures .1 .0) (w .ensures .1 .1) (λ e. omega arith)
 
 slice-aggregate-put-cards : tie.Need-slice-aggregate-put-cards
 slice-aggregate-put-cards c = search needs
@@ -63,13 +63,13 @@ returns-4 c =
     let at-put-cards = at-put-record .before .before .before .before .before in
     let at-if3 = at-put-cards .before .before .before in
     let at-walk-frame = at-if3 .before .before .before in
-    let at-long-at = at-walk-frame .before .before .before .before in
-    let at-if2 = at-long-at .before .before in
+    let at-number32-at = at-walk-frame .before .before .before .before in
+    let at-if2 = at-number32-at .before .before in
     let at-if1 = at-if2 .before in
     let z = at-if1 .before .before .before .before .args in
     let w = at-walk-frame .walk-frame in
     walk-said (z .plan .now) (z .from) (z .to) (z .met .now) (z .«record» .now) (omega (arith, at-if1 .if1 .left)) (omega (arith, at-if2 .if2 .left))
-    _ (at-long-at .long-at .ensures) (at-walk-frame .before .before .long-at2 .ensures) (w .result) _ _ refl (w .ensures .0) (w .ensures .1 .0) (w .ensures .1 .1)
+    _ (at-number32-at .number32-at .ensures) (at-walk-frame .before .before .number32-at2 .ensures) (w .result) _ _ refl (w .ensures .0) (w .ensures .1 .0) (w .ensures .1 .1)
     (omega (arith, at-if3 .if3 .left)) _ _ (at-put-cards .put-cards .ensures .0) (at-put-cards .put-cards .ensures .1)
     (at-put-record .put-record .ensures .0) (at-put-record .put-record .ensures .1)
 
@@ -79,8 +79,8 @@ jolvente-walk-spec =
     (tie.spec
     returns
     returns-2
-    long-at-requires
-    long-at-requires-2
+    number32-at-requires
+    number32-at-requires-2
     slice-aggregate-walk-frame
     walk-frame-requires
     same-length

@@ -19,10 +19,10 @@ put-record-requires : tie.Need-put-record-requires
 put-record-requires c κs = omega arith
 
 mul-result : tie.Need-mul-result
-mul-result c = omega (arith, returned-fits _ _ _ _ (c .before .before .before .before .before .before .before .write-plan .ensures .answer))
+mul-result c = omega (arith, returned-fits _ _ _ _ (c .before .before .before .before .before .before .before .write-plan .ensures .0 .answer))
 
 add-result : tie.Need-add-result
-add-result c = omega (arith, returned-fits _ _ _ _ (c .before .before .before .before .before .before .before .before .write-plan .ensures .answer))
+add-result c = omega (arith, returned-fits _ _ _ _ (c .before .before .before .before .before .before .before .before .write-plan .ensures .0 .answer))
 
 same-length : tie.Need-same-length
 same-length c = search needs
@@ -33,7 +33,7 @@ same-length-2 c = search needs
 returns-3 : tie.Need-returns-3
 returns-3 c =
     let at-write-plan = c .before .before .before .before .before .before .before .before in
-    plan-said _ _ _ _ _ (at-write-plan .write-plan .result) (omega arith) (omega arith) (at-write-plan .write-plan .ensures)
+    plan-said _ _ _ _ _ (at-write-plan .write-plan .result) (omega arith) (omega arith) (at-write-plan .write-plan .ensures .0)
     (c .before .before .before .before .put-record .ensures .0)
 
 pub jolvente-write-plan-spec : {M : Type 1} → statement M

@@ -2,7 +2,7 @@
 use mathlib.Core.Path.{sym, ap}
 use native.Mathlib.Omega.{arith}
 use lib.ListN.{length}
-use Rattle.listing_text.proofs.Putting.{puts-as}
+use Rattle.text.proofs.Putting.{puts-as}
 use Rattle.listing_text.proofs.Fits.{listing-fits}
 use Rattle.listing_text.proofs.Listings.{listing-refused, planned-sizes, planned-columns, listing-rack}
 use borrow.Author.Needs.{needs}

@@ -20,11 +20,11 @@ use prog.Wp.{Heap, Calls, Loops, WpFn, Tables}
 use ghost.Atoms.{Atoms, sem}
 use contract.Monad.{Fun, fact}
 use contract.Running.{givenOf, tables, tablesOf}
-use types.Kit.{Given, ‵, raw, _⊛_, ⋆, some, later, _$_, _∵_, !, qed, by, move, use1, use2, split, join, pick, rewrite, drop, fsplit, fjoin}
-use types.Kit.{suffices, frame, await, done}
+use types.Kit.{Given, ‵, raw, _⊛_, ⋆, some, later, _$_, _∵_, !, qed, by, move, use1, use2, split, join, pick, rewrite, drop, fsplit, fjoin, suffices}
+use types.Kit.{frame, await, done}
 use types.Part.{whole, sub, look-in, agg}
-use types.Run.{look, init, fld, assigns, forget, stop, from, load, and-then, no-more, land, returns, enter, alloc1, alloc0, params1, pass1}
-use types.Run.{pass0, free1, free0}
+use types.Run.{look, init, fld, assigns, forget, stop, from, load, and-then, no-more, land, returns, enter, alloc1, alloc0, params1, pass1, pass0}
+use types.Run.{free1, free0}
 use sound.WpLaws.{FmC, fmOf, WpFn-mono}
 use denote.RattleType.{RattleType, owns}
 use denote.Laws.{Is, shows}
@@ -44,7 +44,7 @@ use denote.Triple.Walked.{says, Stays, stay-none-slice, walkOf, goes-none-slice,
 use denote.Exit.{yes}
 use denote.Triple.Clauses.{ensured, lasts}
 use Rattle.reader.specs.Promises.{Measured}
-use Rattle.reader.specs.Reading.{Read-says}
+use Rattle.reader.specs.Reading.{Slice-is, Read-says}
 use Rattle.reader.specs.declared.layout.Sizes.{Sizes}
 use Rattle.reader.proofs.layout.Sizes as S
 use Rattle.reader.proofs.layout.Sizes.Laws as S′
@@ -103,8 +103,11 @@ module _ {M : Type 1} (𝓤 : URA M) (H : Heap 𝓤) (A : Atoms 𝓤) (W : Given
   abbrev Is-read : Sizes → Type 0
   Is-read r = Read-says (now s) r
 
+  abbrev Is-promised : Sizes → Type 0
+  Is-promised r = r .number ≡ 0 → Measured (now s)
+
   abbrev Is-part : Sizes → RefT (List ℕ) → Type 0
-  Is-part r t = now t ≡ cond (eqb (r .number) 0) (now s) []
+  Is-part r t = Slice-is (s .ptr) (cond (eqb (r .number) 0) (now s) []) t
 
   abbrev to-reads : Reads 𝓤 H A mem run .Ghost
   to-reads = (((κ, tt), (q, tt), tt, (s, tt), (v ∷ [], tt)), tt)
@@ -130,27 +133,25 @@ module _ {M : Type 1} (𝓤 : URA M) (H : Heap 𝓤) (A : Atoms 𝓤) (W : Given
       frame ! $ done !) $
       frame ! $ done !
 
-  -- of two clauses the first, and of one that one
-  reads-said : (r : Sizes) → ent 𝓤 (ensured 𝓤 H A reads.ended (reads.clauses 𝓤 H A mem run) (κ, tt) (s, tt) tt r) (fact 𝓤 (Is-read r))
-  reads-said r =
-      exE 𝓤 _ (λ ws. via 𝓤 (sep 𝓤 (fact 𝓤 (Is-read r)) (fact 𝓤 (r .number ≡ 0 → Measured (now s))))
-      (snd∗ 𝓤 (sem 𝓤 H A (lasts reads.ended (κ, tt) (s, tt) ws)) (sep 𝓤 (fact 𝓤 (Is-read r)) (fact 𝓤 (r .number ≡ 0 → Measured (now s)))))
-      (fst∗ 𝓤 (fact 𝓤 (Is-read r)) (fact 𝓤 (r .number ≡ 0 → Measured (now s)))))
+  -- the clauses alone: no callee has a `&mut`, so what is said of last values is dropped
+  reads-said : (r : Sizes) → ent 𝓤 (ensured 𝓤 H A reads.ended (reads.clauses 𝓤 H A mem run) (κ, tt) (s, tt) tt r)
+      (sep 𝓤 (fact 𝓤 (Is-read r)) (fact 𝓤 (Is-promised r)))
+  reads-said r = exE 𝓤 _ (λ ws. snd∗ 𝓤 (sem 𝓤 H A (lasts reads.ended (κ, tt) (s, tt) ws)) (sep 𝓤 (fact 𝓤 (Is-read r)) (fact 𝓤 (Is-promised r))))
 
   unless-said : (r : Sizes) (t : RefT (List ℕ))
       → ent 𝓤 (ensured 𝓤 H A unless.ended (unless.clauses 𝓤 H A mem run) (κ, tt) (s, (r .number, tt)) tt t) (fact 𝓤 (Is-part r t))
   unless-said r t = exE 𝓤 _ (λ ws. snd∗ 𝓤 (sem 𝓤 H A (lasts unless.ended (κ, tt) (s, (r .number, tt)) ws)) (fact 𝓤 (Is-part r t)))
 
-  exits : (t : RefT (List ℕ)) (r : Sizes) → Is-part r t → Is-read r → r .number < 2 ^ 32 → r .cards < 2 ^ 32 → r .links < 2 ^ 32
+  exits : (t : RefT (List ℕ)) (r : Sizes) → Is-part r t → Is-read r → Is-promised r → r .number < 2 ^ 32 → r .cards < 2 ^ 32 → r .links < 2 ^ 32
       → r .columns < 2 ^ 32
       → ent 𝓤 (⋆ 𝓤 H A (‵ (R .own t (sliceVal (t .ptr) (length (t .now)) ∷ [])) ∷ (‵ (flft κ q) ⊛ ‵ ftrue) ∷ ‵ Own ∷ []))
       (Post (T′.lowered (made t r)))
-  exits t r e e′ h₀ h₁ h₂ h₃ =
+  exits t r e e′ f h₀ h₁ h₂ h₃ =
       qed W (‵ (R .own t (sliceVal (t .ptr) (length (t .now)) ∷ [])) ∷ (‵ (flft κ q) ⊛ ‵ ftrue) ∷ ‵ Own ∷ []) ∵
       suffices ! _
       (ends-at 𝓤 H A opens.ended stayed (opens.clauses 𝓤 H A mem run) W (((κ, tt), (q, tt), tt, (s, tt), (v ∷ [], tt)), tt) (T′.lowered (made t r))
       (made t r) (tt, tt) (tt, tt)) $
-      says ! (opening-says (now s) r (made t r) e′ refl e refl refl refl) $
+      says ! (opening-says (now s) (s .ptr) r (made t r) e′ f refl e refl refl refl) $
       move ! (1 ∷ []) $ frame ! $ nothing ! $ move ! (2 ∷ 0 ∷ []) $ fjoin ! $ frame ! $
       -- [what t owns]: what the fields own together is what the struct owns
       nothing ! $ number-owned ! (r .number) h₀ $
@@ -171,7 +172,8 @@ module _ {M : Type 1} (𝓤 : URA M) (H : Heap 𝓤) (A : Atoms 𝓤) (W : Given
         calls-at ! fm (Reads 𝓤 H A mem run) known-reads to-reads (and-then ! (load ! (from ! (stop !)) (look ! 6 refl)) (no-more !)) (λ u.
         use1 W (later (some (λ (r : Sizes). ((‵ (flft κ q) ⊛ ‵ ftrue) ⊛ ‵ (S.the-row .own r (u ∷ [])))
         ⊛ raw (ensured 𝓤 H A reads.ended (reads.clauses 𝓤 H A mem run) (κ, tt) (s, tt) tt r)))) (id⊢ 𝓤 _) $ await ! tt $ pick ! (λ r.
-        split ! $ move ! (1 ∷ []) $ use1 W (raw (fact 𝓤 (Is-read r))) (reads-said r) $ heard ! (Is-read r) (λ e. split ! $ move ! (1 ∷ []) $
+        split ! $ move ! (1 ∷ []) $ use1 W (raw (fact 𝓤 (Is-read r)) ⊛ raw (fact 𝓤 (Is-promised r))) (reads-said r) $ split ! $
+        heard ! (Is-read r) (λ e. heard ! (Is-promised r) (λ f. split ! $ move ! (1 ∷ []) $
         -- [what the sizes own; the token; what s owns; room for _3; …; room for _2; …; _1; …; room for _0; …]
         peeks ! S.the-row (Is S.the-row) (shows 𝓤 H A S.the-row) r (u ∷ []) (λ is.
         land ! (from ! (stop !)) (init ! 5 refl (LL.lawful S.the-type S′.the-laws 𝓤 H A W .typed r _ is .0)) $
@@ -213,8 +215,8 @@ module _ {M : Type 1} (𝓤 : URA M) (H : Heap 𝓤) (A : Atoms 𝓤) (W : Given
         )) $
         returns ! (look ! 9 refl) $ forget ! 3 refl $ forget ! 5 refl $ forget ! 7 refl $ forget ! 9 refl $
         move ! (9 ∷ 10 ∷ []) $ free1 ! $ move ! (7 ∷ 8 ∷ []) $ free1 ! $ move ! (5 ∷ 6 ∷ []) $ free1 ! $ move ! (3 ∷ 4 ∷ []) $ free1 ! $ free0 ! $
-        by ! (exits t r e′ e (LL.owed S.the-type S′.the-laws r _ is .0 .1) (LL.owed S.the-type S′.the-laws r _ is .1 .0 .1)
-        (LL.owed S.the-type S′.the-laws r _ is .1 .1 .0 .1) (LL.owed S.the-type S′.the-laws r _ is .1 .1 .1 .0 .1))))))))))))))
+        by ! (exits t r e′ e f (LL.owed S.the-type S′.the-laws r _ is .0 .1) (LL.owed S.the-type S′.the-laws r _ is .1 .0 .1)
+        (LL.owed S.the-type S′.the-laws r _ is .1 .1 .0 .1) (LL.owed S.the-type S′.the-laws r _ is .1 .1 .1 .0 .1)))))))))))))))
 
 module _ {M : Type 1} (𝓤 : URA M) (H : Heap 𝓤) (A : Atoms 𝓤) (W : Given 𝓤 H A) (mem : Memory → SProp 𝓤) (run : Routine → Fun 𝓤) where
   open-walks : (C : Calls 𝓤 H) (Λ : Loops 𝓤 H) → FmC 𝓤 H (W .laws) C → Triple 𝓤 (C #reader·read·read-plan) (Reads 𝓤 H A mem run)

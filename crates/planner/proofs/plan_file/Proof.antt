@@ -4,7 +4,7 @@ use Prim.Native.Nat.{ℕ}
 use native.Mathlib.Omega.{arith}
 use lib.ListN.{replicate}
 use Rattle.rack.proofs.WiringFile.{sizes-clear}
-use Rattle.survey.proofs.Zeros.{zeros-long}
+use Rattle.rack.proofs.Zeros.{zeros-long}
 use Rattle.survey.proofs.Forms.{sizes-are}
 use Rattle.planner.proofs.RackPlanned.{sizes-planned, links-planned, links-formed, rack-file-planned}
 use mathlib.Core.List.{[]}

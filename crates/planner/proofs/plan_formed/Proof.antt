@@ -2,7 +2,7 @@
 use mathlib.Core.List.{[]}
 use mathlib.Core.Path.{sym, _∙_}
 use native.Mathlib.Omega.{arith}
-use Rattle.survey.proofs.Zeros.{zeros-long}
+use Rattle.rack.proofs.Zeros.{zeros-long}
 use Rattle.survey.proofs.Forms.{formed-cards}
 use Rattle.planner.proofs.RackPlanned.{reached, unreached-planned, odd-planned, none-planned, found-planned}
 use borrow.Author.Needs.{needs}

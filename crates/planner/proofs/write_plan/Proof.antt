@@ -4,12 +4,16 @@ use Prim.Native.Nat.{ℕ}
 use native.Mathlib.Omega.{arith}
 use lib.ListN.{replicate}
 use Rattle.planner.proofs.WriteAnswer.{write-says-one, write-says-refused, written-sizes, columns-few, write-says-found}
+use Rattle.planner.proofs.WritePromise.{plan-found}
 use borrow.Author.Needs.{needs}
 use Rattle.planner.proofs.write_plan.Statement.{statement}
 use Rattle.planner.proofs.write_plan.Tie as tie
 
 returns : tie.Need-returns
-returns c = write-says-one (c .before .before .before .args .file .now) _ (c .before .before .before .args .output .now) (c .if1 .taken) refl refl refl
+returns c =
+    let at-args = c .before .before .before in
+    let says = write-says-one (at-args .args .file .now) _ (at-args .args .output .now) (c .if1 .taken) refl refl refl in
+    (says, λ a. plan-found _ _ _ _ a says)
 
 slice-aggregate-plan-file : tie.Need-slice-aggregate-plan-file
 slice-aggregate-plan-file c = search needs
@@ -32,8 +36,9 @@ returns-2 c =
     let at-plan-file = at-clear-bytes .before .before .before .before in
     let at-if1 = at-plan-file .before .before .before in
     let at-args = at-if1 .before .before .before in
-    write-says-refused (at-args .args .file .now) _ _ _ (at-args .args .output .now) (at-if1 .if1 .left)
-    (at-plan-file .plan-file .ensures) _ (c .if2 .taken) (at-clear-bytes .clear-bytes .ensures)
+    let says = write-says-refused (at-args .args .file .now) _ _ _ (at-args .args .output .now) (at-if1 .if1 .left)
+    (at-plan-file .plan-file .ensures) _ (c .if2 .taken) (at-clear-bytes .clear-bytes .ensures) in
+    (says, λ a. plan-found _ _ _ _ a says)
 
 number-at-requires : tie.Need-number-at-requires
 number-at-requires c κs =
@@ -92,10 +97,11 @@ returns-3 c =
     let at-plan-file = at-clear-bytes .before .before .before .before in
     let at-if1 = at-plan-file .before .before .before in
     let at-args = at-if1 .before .before .before in
-    write-says-found (at-args .args .file .now) _ _ _ (at-args .args .output .now) (at-if1 .if1 .left)
+    let says = write-says-found (at-args .args .file .now) _ _ _ (at-args .args .output .now) (at-if1 .if1 .left)
     (at-plan-file .plan-file .ensures) (at-if2 .if2 .left) _ _
     (c .before .before .put-plan .kept .1 .1 .1 .1 .1 .0 ∙ at-clear-bytes .clear-bytes .kept .0)
-    (c .before .before .put-plan .ensures .0) (c .before .before .put-plan .ensures .1)
+    (c .before .before .put-plan .ensures .0) (c .before .before .put-plan .ensures .1) in
+    (says, λ a. plan-found _ _ _ _ a says)
 
 pub write-plan-spec : {M : Type 1} → statement M
 write-plan-spec =

@@ -2,7 +2,7 @@
 use mathlib.Core.Path.{sym, _∙_}
 use native.Mathlib.Omega.{arith}
 use Rattle.rack.specs.Wiring.{link-at}
-use Rattle.reader.specs.Plan.{plan-wiring}
+use Rattle.rack.specs.PlanFile.{plan-wiring}
 use Rattle.forwarder.proofs.Searching.{far-first-out, far-second-out, far-second, far-first, far-none}
 use borrow.Author.Needs.{needs}
 use Rattle.forwarder.proofs.step.far_card.Statement.{statement}

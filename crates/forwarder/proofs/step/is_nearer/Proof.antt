@@ -3,7 +3,7 @@ use native.Mathlib.Omega.{arith}
 use mathlib.Core.Path.{refl}
 use borrow.Author.Tests.{lt-ltb, le-ltb}
 use borrow.Author.Needs.{needs}
-use Rattle.reader.specs.Plan.{plan-hamming}
+use Rattle.rack.specs.PlanFile.{plan-hamming}
 use Rattle.forwarder.proofs.Searching.{one-mark-more}
 use Rattle.forwarder.proofs.step.is_nearer.Statement.{statement}
 use Rattle.forwarder.proofs.step.is_nearer.Tie as tie
@@ -27,7 +27,7 @@ returns-3 : tie.Need-returns-3
 returns-3 c =
     let s = c .before .before .before .before .before .before in
     let z = s .args in
-    let e = c .before .plan-hamming .ensures .0 in
+    let e = c .before .plan-hamming .ensures in
     (rw (lt-ltb (z .c) (z .n) (omega arith), lt-ltb (plan-hamming (z .plan .now) (z .c) (z .b)) (z .left) (omega (arith, e))) refl, s .pre .3)
 
 element-write-marks : tie.Need-element-write-marks
@@ -37,7 +37,7 @@ returns-4 : tie.Need-returns-4
 returns-4 c =
     let s = c .before .before .before .before .before .before in
     let z = s .args in
-    let e = c .before .plan-hamming .ensures .0 in
+    let e = c .before .plan-hamming .ensures in
     let far = le-ltb (plan-hamming (z .plan .now) (z .c) (z .b)) (z .left) (omega (arith, e)) in
     (rw (lt-ltb (z .c) (z .n) (omega arith), far) refl, one-mark-more (z .plan .now) (z .b) (z .left) (z .marks .now) (z .c) (s .pre .3) far)
 

@@ -44,7 +44,7 @@ cast-t17 c =
       arith,
       at-args .pre .1 .few,
       tested-card (z .plan .now) (z .n) (z .m) (z .k) (z .a) (z .b) (at-args .pre .1) _ _ _
-          (c .before .before .before .far-card .ensures) (at-plan-hamming .plan-hamming .ensures .0)
+          (c .before .before .before .far-card .ensures) (at-plan-hamming .plan-hamming .ensures)
           (sym (c .before .is-nearer .ensures .0) ∙ c .if2 .taken),
     )
 
@@ -55,7 +55,7 @@ returns-2 c =
     let at-args = at-plan-hamming .before .before .before in
     let z = at-args .args in
     step-found (z .plan .now) (z .n) (z .m) (z .k) (z .a) (z .b) (at-args .pre .1) _ _ _
-    (c .before .before .before .far-card .ensures) (at-plan-hamming .plan-hamming .ensures .0)
+    (c .before .before .before .far-card .ensures) (at-plan-hamming .plan-hamming .ensures)
     (λ e. omega arith) (omega arith) (at-loop .loop .inv .1) (sym (c .before .is-nearer .ensures .0) ∙ c .if2 .taken)
 
 add-i : tie.Need-add-i Inv-loop μ-loop
@@ -72,7 +72,7 @@ loop-again c =
       omega arith,
       let z = at-args .args in
           step-passed (z .plan .now) (z .n) (z .m) (z .k) (z .a) (z .b) (at-args .pre .1) _ _ _
-          (c .before .before .before .far-card .ensures) (at-plan-hamming .plan-hamming .ensures .0)
+          (c .before .before .before .far-card .ensures) (at-plan-hamming .plan-hamming .ensures)
           (at-loop .loop .inv .1) (sym (c .before .is-nearer .ensures .0) ∙ c .if2 .left),
       c .before .is-nearer .ensures .1,
     )

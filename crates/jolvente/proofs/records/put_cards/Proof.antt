@@ -6,10 +6,9 @@ use native.Mathlib.Omega.{arith}
 use lib.ListN.{length, getD}
 use borrow.Author.Count.{below-more}
 use Rattle.rack.specs.Lists.{blocks}
-use Rattle.rack.specs.WiringFile.{two-bytes}
+use Rattle.rack.specs.Buffers.{two-bytes, Appends}
 use Rattle.rack.proofs.WiringFile.{length-two-bytes}
-use Rattle.planner.specs.Writing.{Appends}
-use Rattle.planner.proofs.Appending.{Appended, appended-none, appended-block}
+use Rattle.rack.proofs.Appending.{Appended, appended-none, appended-block}
 use Rattle.jolvente.specs.Records.{cards-in}
 use Rattle.jolvente.proofs.RecordBytes.{cards-read, cards-appended}
 use borrow.Author.Needs.{needs}

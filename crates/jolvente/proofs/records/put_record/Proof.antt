@@ -13,17 +13,17 @@ use Rattle.jolvente.proofs.records.put_record.Tie as tie
 clear-bytes-requires : tie.Need-clear-bytes-requires
 clear-bytes-requires c κs = search needs
 
-put-long-requires : tie.Need-put-long-requires
-put-long-requires c κs = search needs
+put-number32-requires : tie.Need-put-number32-requires
+put-number32-requires c κs = search needs
 
-put-long-requires-2 : tie.Need-put-long-requires-2
-put-long-requires-2 c κs = search needs
+put-number32-requires-2 : tie.Need-put-number32-requires-2
+put-number32-requires-2 c κs = search needs
 
-put-long-requires-3 : tie.Need-put-long-requires-3
-put-long-requires-3 c κs = search needs
+put-number32-requires-3 : tie.Need-put-number32-requires-3
+put-number32-requires-3 c κs = search needs
 
-put-long-requires-4 : tie.Need-put-long-requires-4
-put-long-requires-4 c κs = search needs
+put-number32-requires-4 : tie.Need-put-number32-requires-4
+put-number32-requires-4 c κs = search needs
 
 same-length : tie.Need-same-length
 same-length c = search needs
@@ -38,7 +38,7 @@ returns c =
     let z = at-clear .before .before .before .args in
     let is =
     record-appended (z .x) (z .y) (z .z) (z .u) (length (z .«record» .now)) _ _ _ _ _ (at-clear .clear-bytes .ensures) (same-length c ∙ at-clear .before .before .before .pre)
-    (at-first .put-long .ensures) (at-second .put-long2 .ensures) (at-third .put-long3 .ensures) (at-fourth .put-long4 .ensures)
+    (at-first .put-number32 .ensures) (at-second .put-number322 .ensures) (at-third .put-number323 .ensures) (at-fourth .put-number324 .ensures)
     in
     (is, subst (λ (x : List ℕ). Reads x (z .x) (z .y) (z .z) (z .u)) (sym is) (record-reads (z .x) (z .y) (z .z) (z .u) (omega arith) (omega arith) (omega arith) (omega arith)))
 
@@ -47,9 +47,9 @@ put-record-spec =
     tie.close
     (tie.spec
     clear-bytes-requires
-    put-long-requires
-    put-long-requires-2
-    put-long-requires-3
-    put-long-requires-4
+    put-number32-requires
+    put-number32-requires-2
+    put-number32-requires-3
+    put-number32-requires-4
     same-length
     returns)

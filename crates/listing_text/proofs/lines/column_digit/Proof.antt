@@ -1,7 +1,7 @@
 -- A shift and the remainder by 2 take the column's bit out of its word. Assumes nothing.
 use mathlib.Core.Path.{sym, ap, _∙_}
 use Rattle.planner.specs.Words.{word-bit}
-use Rattle.listing_text.specs.Decimals.{digit-code}
+use Rattle.text.specs.Decimals.{digit-code}
 use Rattle.listing_text.proofs.CardLines.{one-number-bit}
 use borrow.Author.Needs.{needs}
 use Rattle.listing_text.proofs.lines.column_digit.Statement.{statement}

@@ -4,7 +4,7 @@ use native.Mathlib.Omega.{arith}
 use lib.ListN.{length}
 use Rattle.planner.specs.Words.{word-bit}
 use Rattle.listing_text.specs.Listing.{dash}
-use Rattle.listing_text.proofs.Putting.{puts-as}
+use Rattle.text.proofs.Putting.{puts-as}
 use Rattle.listing_text.proofs.CardLines.{address-none, address-columns, length-columns}
 use borrow.Author.Needs.{needs}
 use Rattle.listing_text.proofs.lines.put_address.Statement.{statement}

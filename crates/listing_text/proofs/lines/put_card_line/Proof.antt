@@ -2,7 +2,7 @@
 use mathlib.Core.Path.{_∙_}
 use Rattle.planner.specs.Words.{word-bit}
 use Rattle.listing_text.specs.Listing.{card-word, space, line-end, card-line}
-use Rattle.listing_text.proofs.Putting.{puts-then, room-then, room-byte}
+use Rattle.text.proofs.Putting.{puts-then, room-then, room-byte}
 use Rattle.listing_text.proofs.CardLines.{card-line-room}
 use borrow.Author.Needs.{needs}
 use Rattle.listing_text.proofs.lines.put_card_line.Statement.{statement}

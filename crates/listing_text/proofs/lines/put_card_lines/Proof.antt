@@ -5,10 +5,10 @@ use native.Mathlib.Omega.{arith}
 use lib.ListN.{length}
 use Rattle.rack.specs.Lists.{blocks}
 use Rattle.planner.specs.Words.{word-bit}
-use Rattle.planner.proofs.Appending.{blocks-snoc}
+use Rattle.rack.proofs.Tables.{blocks-snoc}
 use Rattle.listing_text.specs.Listing.{card-line}
-use Rattle.listing_text.specs.Putting.{Puts}
-use Rattle.listing_text.proofs.Putting.{puts-none, puts-then, puts-as, room-then}
+use Rattle.text.specs.Putting.{Puts}
+use Rattle.text.proofs.Putting.{puts-none, puts-then, puts-as, room-then}
 use Rattle.listing_text.proofs.CardLines.{blocks-room}
 use Rattle.listing_text.proofs.lines.put_card_lines.Statement.{statement}
 use Rattle.listing_text.proofs.lines.put_card_lines.Tie as tie

@@ -3,7 +3,7 @@ use mathlib.Core.Path.{sym, ap}
 use native.Mathlib.Omega.{arith}
 use lib.ListN.{length}
 use Rattle.listing_text.specs.Listing.{at-link, at-card}
-use Rattle.listing_text.proofs.Putting.{puts-none, puts-as}
+use Rattle.text.proofs.Putting.{puts-none, puts-as}
 use Rattle.listing_text.proofs.Refused.{carried-link, carried-card, carried-none}
 use borrow.Author.Needs.{needs}
 use Rattle.listing_text.proofs.lines.put_carried.Statement.{statement}

@@ -4,10 +4,10 @@ use mathlib.Core.List.{[], _∷_, _++_}
 use Prim.Native.Nat.{ℕ, _-_, _≤_}
 use native.Mathlib.Omega.{arith}
 use Rattle.rack.specs.Lists.{tabulate}
-use Rattle.rack.proofs.Tables.{length-tabulate}
+use Rattle.rack.proofs.Tables.{length-tabulate, tabulate-snoc}
 use Rattle.planner.specs.Words.{word-bit}
-use Rattle.planner.specs.Writing.{Appends}
-use Rattle.planner.proofs.Appending.{Appended, appended-none, appended-byte, tabulate-snoc}
+use Rattle.rack.specs.Buffers.{Appends}
+use Rattle.rack.proofs.Appending.{Appended, appended-none, appended-byte}
 use Rattle.listing_text.specs.Listing.{column-digit}
 use Rattle.listing_text.proofs.lines.put_columns.Statement.{statement}
 use Rattle.listing_text.proofs.lines.put_columns.Tie as tie

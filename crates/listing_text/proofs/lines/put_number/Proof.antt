@@ -1,6 +1,6 @@
 -- The word is appended, then the number. Assumes nothing.
-use Rattle.listing_text.specs.Decimals.{decimal}
-use Rattle.listing_text.proofs.Putting.{puts-then, room-first, room-then}
+use Rattle.text.specs.Decimals.{decimal}
+use Rattle.text.proofs.Putting.{puts-then, room-first, room-then}
 use borrow.Author.Needs.{needs}
 use Rattle.listing_text.proofs.lines.put_number.Statement.{statement}
 use Rattle.listing_text.proofs.lines.put_number.Tie as tie

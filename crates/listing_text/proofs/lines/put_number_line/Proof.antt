@@ -1,8 +1,8 @@
 -- The word and the number are appended, then the line's end. Assumes nothing.
 use mathlib.Core.List.{_++_}
-use Rattle.listing_text.specs.Decimals.{decimal}
+use Rattle.text.specs.Decimals.{decimal}
 use Rattle.listing_text.specs.Listing.{number-line, line-end}
-use Rattle.listing_text.proofs.Putting.{puts-then, room-first, room-byte}
+use Rattle.text.proofs.Putting.{puts-then, room-first, room-byte}
 use borrow.Author.Needs.{needs}
 use Rattle.listing_text.proofs.lines.put_number_line.Statement.{statement}
 use Rattle.listing_text.proofs.lines.put_number_line.Tie as tie

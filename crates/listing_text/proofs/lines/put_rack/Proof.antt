@@ -1,7 +1,7 @@
 -- The lines of the sizes are appended, then those of the cards. Assumes nothing.
 use Rattle.planner.specs.Words.{word-bit}
 use Rattle.listing_text.specs.Listing.{rack-lines}
-use Rattle.listing_text.proofs.Putting.{puts-then, room-then}
+use Rattle.text.proofs.Putting.{puts-then, room-then}
 use Rattle.listing_text.proofs.CardLines.{rack-lines-room}
 use borrow.Author.Needs.{needs}
 use Rattle.listing_text.proofs.lines.put_rack.Statement.{statement}

@@ -2,7 +2,7 @@
 use mathlib.Core.Path.{_∙_}
 use Rattle.rack.specs.Refusals.{refusal}
 use Rattle.listing_text.specs.Listing.{refused-word, line-end, refused-text}
-use Rattle.listing_text.proofs.Putting.{puts-then, room-then, room-byte}
+use Rattle.text.proofs.Putting.{puts-then, room-then, room-byte}
 use Rattle.listing_text.proofs.Refused.{refused-room}
 use borrow.Author.Needs.{needs}
 use Rattle.listing_text.proofs.lines.put_refused.Statement.{statement}

@@ -2,7 +2,7 @@
 use mathlib.Core.Path.{_∙_}
 use mathlib.Core.List.{_++_}
 use Rattle.listing_text.specs.Listing.{cards-word, links-word, columns-word, number-line, size-lines}
-use Rattle.listing_text.proofs.Putting.{puts-then, room-first, room-then}
+use Rattle.text.proofs.Putting.{puts-then, room-first, room-then}
 use borrow.Author.Needs.{needs}
 use Rattle.listing_text.proofs.lines.put_size_lines.Statement.{statement}
 use Rattle.listing_text.proofs.lines.put_size_lines.Tie as tie

@@ -10,7 +10,8 @@ card-address-requires : tie.Need-card-address-requires
 card-address-requires c κs = search needs
 
 returns : tie.Need-returns
-returns c = rw (c .before .before .carried-bytes .ensures) at (c .card-address .ensures .0)
+returns c =
+    let seen = c .before .before .carried-bytes .ensures in rw (seen .place, seen .bytes) at (c .card-address .ensures .0)
 
 pub address-carried-spec : {M : Type 1} → statement M
 address-carried-spec = tie.close (tie.spec carried-bytes-requires card-address-requires returns)

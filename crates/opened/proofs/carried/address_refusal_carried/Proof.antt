@@ -10,7 +10,7 @@ card-address-requires : tie.Need-card-address-requires
 card-address-requires c κs = search needs
 
 returns : tie.Need-returns
-returns c = rw (c .before .before .carried-bytes .ensures) at (c .card-address .ensures .1)
+returns c = rw (c .before .before .carried-bytes .ensures .bytes) at (c .card-address .ensures .1)
 
 pub address-refusal-carried-spec : {M : Type 1} → statement M
 address-refusal-carried-spec =

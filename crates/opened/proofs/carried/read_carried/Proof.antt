@@ -11,7 +11,7 @@ read-plan-requires c κs = search needs
 
 returns : tie.Need-returns
 returns c =
-    let e = rw (c .before .carried-bytes .ensures) at (c .read-plan .ensures) in record { says = e .0; promise = e .1 }
+    let e = rw (c .before .carried-bytes .ensures .bytes) at (c .read-plan .ensures) in record { says = e .0; promise = e .1 }
 
 pub read-carried-spec : {M : Type 1} → statement M
 read-carried-spec = tie.close (tie.spec carried-bytes-requires read-plan-requires returns)

@@ -10,7 +10,7 @@ step-frame-requires : tie.Need-step-frame-requires
 step-frame-requires c κs = search needs
 
 returns : tie.Need-returns
-returns c = rw (c .before .carried-bytes .ensures) at (c .step-frame .ensures)
+returns c = rw (c .before .carried-bytes .ensures .bytes) at (c .step-frame .ensures)
 
 pub step-carried-spec : {M : Type 1} → statement M
 step-carried-spec = tie.close (tie.spec carried-bytes-requires step-frame-requires returns)

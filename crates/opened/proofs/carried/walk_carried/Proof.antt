@@ -14,7 +14,7 @@ same-length c = search needs
 
 returns : tie.Need-returns
 returns c =
-    let e = rw (c .before .before .before .before .carried-bytes .ensures) at (c .before .before .walk-frame .ensures) in
+    let e = rw (c .before .before .before .before .carried-bytes .ensures .bytes) at (c .before .before .walk-frame .ensures) in
     record { says = e .0; arrives = e .1 .0; full = e .1 .1 }
 
 pub walk-carried-spec : {M : Type 1} → statement M

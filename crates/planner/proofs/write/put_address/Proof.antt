@@ -2,14 +2,14 @@
 use mathlib.Core.Path.{_≡_, subst, sym}
 use mathlib.Core.List.{_++_, _∷_, []}
 use Prim.Native.Nat.{ℕ}
-use Rattle.planner.specs.Writing.{Appends}
+use Rattle.rack.specs.Buffers.{Appends}
 use Prim.Native.Nat.{_-_, _≤_}
 use native.Mathlib.Omega.{arith}
 use mathlib.Core.Path.{ap, _∙_}
 use Rattle.rack.specs.Lists.{tabulate}
-use Rattle.rack.proofs.Tables.{length-tabulate}
+use Rattle.rack.proofs.Tables.{length-tabulate, tabulate-snoc}
 use Rattle.planner.specs.Writing.{word-byte}
-use Rattle.planner.proofs.Appending.{Appended, appended-none, appended-byte, tabulate-snoc}
+use Rattle.rack.proofs.Appending.{Appended, appended-none, appended-byte}
 use Rattle.planner.proofs.write.put_address.Statement.{statement}
 use Rattle.planner.proofs.write.put_address.Tie as tie
 

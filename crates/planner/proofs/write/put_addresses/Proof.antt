@@ -1,12 +1,13 @@
 -- The addresses of the first c cards are appended. Assumes nothing.
-use Rattle.planner.proofs.Appending.{address-room, addresses-room, appended-block}
+use Rattle.rack.proofs.Appending.{appended-block, Appended, appended-none}
+use Rattle.planner.proofs.WrittenPlan.{address-room, addresses-room}
 use mathlib.Core.Path.{_≡_, subst}
 use Prim.Native.Nat.{ℕ, _-_, _≤_}
 use native.Mathlib.Omega.{arith}
 use Rattle.rack.specs.Lists.{tabulate, blocks}
 use Rattle.rack.proofs.Tables.{length-tabulate}
-use Rattle.planner.specs.Writing.{word-byte, Appends}
-use Rattle.planner.proofs.Appending.{Appended, appended-none}
+use Rattle.rack.specs.Buffers.{Appends}
+use Rattle.planner.specs.Writing.{word-byte}
 use Rattle.planner.proofs.write.put_addresses.Statement.{statement}
 use Rattle.planner.proofs.write.put_addresses.Tie as tie
 

@@ -3,10 +3,10 @@ use mathlib.Core.Path.{_≡_, subst}
 use Prim.Native.Nat.{ℕ, _+_, _*_, _-_, _≤_}
 use native.Mathlib.Omega.{arith}
 use Rattle.rack.specs.Lists.{blocks}
-use Rattle.rack.specs.WiringFile.{two-bytes, number-at}
+use Rattle.rack.specs.Buffers.{two-bytes, number-at, Appends}
 use Rattle.rack.proofs.WiringFile.{length-two-bytes}
-use Rattle.planner.specs.Writing.{end-pair, Appends}
-use Rattle.planner.proofs.Appending.{Appended, appended-none, appended-block}
+use Rattle.planner.specs.Writing.{end-pair}
+use Rattle.rack.proofs.Appending.{Appended, appended-none, appended-block}
 use Rattle.planner.proofs.write.put_ends.Statement.{statement}
 use Rattle.planner.proofs.write.put_ends.Tie as tie
 

@@ -1,5 +1,5 @@
 -- One number is appended after the other. Assumes nothing.
-use Rattle.planner.proofs.Appending.{sizes-appended}
+use Rattle.planner.proofs.WrittenPlan.{sizes-appended}
 use borrow.Author.Needs.{needs}
 use Rattle.planner.proofs.write.put_sizes.Statement.{statement}
 use Rattle.planner.proofs.write.put_sizes.Tie as tie

@@ -1,5 +1,5 @@
 -- Two bytes are below 256 each, so their number is below 65,536. Assumes nothing.
-use Rattle.rack.specs.WiringFile.{number-at}
+use Rattle.rack.specs.Buffers.{number-at}
 use native.Mathlib.Numerals.{add-one}
 use native.Mathlib.Omega.{arith}
 use Prim.Native.Nat.{_+_}

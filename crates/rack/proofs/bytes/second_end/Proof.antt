@@ -1,5 +1,5 @@
 -- The link's place in the list is its place in the bytes, behind all first ends. Assumes nothing.
-use Rattle.rack.specs.WiringFile.{number-at}
+use Rattle.rack.specs.Buffers.{number-at}
 use Prim.Native.Nat.{ℕ, _+_, _*_}
 use mathlib.Core.Path.{ap, sym, _∙_}
 use Rattle.rack.specs.Wiring.{Link}

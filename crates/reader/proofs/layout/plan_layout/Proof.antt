@@ -1,7 +1,8 @@
 -- Each early return leaves a fact of the layout that fails, and at the end all hold: the answer is 12 or the sizes read. Assumes nothing.
 use mathlib.Core.Path.{refl}
 use native.Mathlib.Omega.{arith}
-use Rattle.reader.proofs.Reading.{few-address-bytes, layout-refused, layout-passed, layout-long, long-layout}
+use Rattle.reader.proofs.Plan.{layout-head, layout-read}
+use Rattle.reader.proofs.Reading.{address-bytes-counted, few-address-bytes, layout-refused, layout-passed}
 use borrow.Author.Needs.{needs}
 use Rattle.reader.proofs.layout.plan_layout.Statement.{statement}
 use Rattle.reader.proofs.layout.plan_layout.Tie as tie
@@ -10,7 +11,7 @@ no-layout-requires : tie.Need-no-layout-requires
 no-layout-requires c κs = search needs
 
 returns : tie.Need-returns
-returns c = layout-refused _ _ (λ z. omega arith) (c .no-layout .ensures _)
+returns c = layout-refused _ _ (λ z. omega (arith, layout-head _ z)) (c .no-layout .ensures _)
 
 number-at-requires : tie.Need-number-at-requires
 number-at-requires c κs = search needs
@@ -25,25 +26,25 @@ no-layout-requires-2 : tie.Need-no-layout-requires-2
 no-layout-requires-2 c κs = search needs
 
 returns-2 : tie.Need-returns-2
-returns-2 c = layout-refused _ _ (λ z. omega arith) (c .no-layout2 .ensures _)
+returns-2 c = layout-refused _ _ (λ z. omega (arith, z)) (c .no-layout2 .ensures _)
 
 no-layout-requires-3 : tie.Need-no-layout-requires-3
 no-layout-requires-3 c κs = search needs
 
 returns-3 : tie.Need-returns-3
-returns-3 c = layout-refused _ _ (λ z. omega arith) (c .no-layout3 .ensures _)
+returns-3 c = layout-refused _ _ (λ z. omega (arith, z)) (c .no-layout3 .ensures _)
 
 no-layout-requires-4 : tie.Need-no-layout-requires-4
 no-layout-requires-4 c κs = search needs
 
 returns-4 : tie.Need-returns-4
-returns-4 c = layout-refused _ _ (λ z. omega arith) (c .no-layout4 .ensures _)
+returns-4 c = layout-refused _ _ (λ z. omega (arith, z)) (c .no-layout4 .ensures _)
 
 no-layout-requires-5 : tie.Need-no-layout-requires-5
 no-layout-requires-5 c κs = search needs
 
 returns-5 : tie.Need-returns-5
-returns-5 c = layout-refused _ _ (λ z. omega arith) (c .no-layout5 .ensures _)
+returns-5 c = layout-refused _ _ (λ z. omega (arith, z)) (c .no-layout5 .ensures _)
 
 mul-if6 : tie.Need-mul-if6
 mul-if6 c = search needs
@@ -71,10 +72,12 @@ no-layout-requires-6 c κs = search needs
 
 returns-6 : tie.Need-returns-6
 returns-6 c =
-    let n = c .before .before .before .before .before .before .before .before .number-at .result in
-    let m = c .before .before .before .before .before .before .before .number-at2 .result in
-    let k = c .before .before .before .before .before .before .number-at3 .result in
-    layout-refused _ _ (λ z. omega (arith, layout-long _ n m k (omega arith, omega arith, omega arith) z)) (c .no-layout6 .ensures _)
+    let n = c .before .before .before .before .before .before .before .before .number-at in
+    let m = c .before .before .before .before .before .before .before .number-at2 in
+    let k = c .before .before .before .before .before .before .number-at3 in
+    layout-refused _ _ (λ z.
+    let read = layout-read _ (n .result) (m .result) (k .result) (n .ensures .0) (m .ensures .0) (k .ensures .0) z in
+    omega (arith, read .long, address-bytes-counted (n .result) (k .result))) (c .no-layout6 .ensures _)
 
 cast-t13 : tie.Need-cast-t13
 cast-t13 c = search needs
@@ -93,10 +96,16 @@ returns-7 c =
     let n = at-number-at .number-at in
     let m = at-number-at2 .number-at2 in
     let k = at-number-at3 .number-at3 in
-    layout-passed _ _
-    (long-layout _ (n .result) (m .result) (k .result) (n .ensures .0, m .ensures .0, k .ensures .0) (omega arith)
-    (omega arith) (omega arith) (omega arith) (omega arith) (omega arith))
-    (record { number = refl; cards = n .ensures .0; links = m .ensures .0; columns = k .ensures .0 })
+    layout-passed _ _ (record {
+      cards = n .ensures .0;
+      links = m .ensures .0;
+      columns = k .ensures .0;
+      some = omega arith;
+      few = omega arith;
+      few-links = omega arith;
+      few-columns = omega arith;
+      long = omega (arith, address-bytes-counted (n .result) (k .result));
+    }) refl
 
 pub plan-layout-spec : {M : Type 1} → statement M
 plan-layout-spec =

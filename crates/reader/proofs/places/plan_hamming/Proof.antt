@@ -46,11 +46,8 @@ bytes-hamming-requires c κs = let k = known (c .before) in (c .before .pre .0, 
 returns : tie.Need-returns
 returns c =
     let s = c .before .before .before in
-    let e = plan-hamming-whole (s .args .plan .now) (s .args .n) (s .args .m) (s .args .k) (s .pre .1) (s .args .a) (s .args .b) (omega arith) in (
-      c .before .bytes-hamming .ensures ∙ sym e,
-      omega
-          (arith, e, c .before .bytes-hamming .ensures, hamming-columns (s .args .plan .now) (s .args .a) (s .args .b)),
-    )
+    c .before .bytes-hamming .ensures
+    ∙ sym (plan-hamming-whole (s .args .plan .now) (s .args .n) (s .args .m) (s .args .k) (s .pre .1) (s .args .a) (s .args .b) (omega arith))
 
 add-low-hamming : tie.Need-add-low-hamming
 add-low-hamming c = omega (arith, known (c .before .before .before))
@@ -71,11 +68,13 @@ returns-2 : tie.Need-returns-2
 returns-2 c =
     let s = c .before .before .before .before .before .before in
     let e = plan-hamming-bytes (s .args .plan .now) (s .args .n) (s .args .m) (s .args .k) (s .pre .1) (s .args .a) (s .args .b) in
-    (omega arith, omega (arith, hamming-columns (s .args .plan .now) (s .args .a) (s .args .b)))
+    omega arith
 
--- their sum is at most k
+-- their sum is at most the number of columns
 add-result : tie.Need-add-result
-add-result c = omega (arith, returns-2 c)
+add-result c =
+    let s = c .before .before .before .before .before .before in
+    omega (arith, returns-2 c, hamming-columns (s .args .plan .now) (s .args .a) (s .args .b), s .pre .1 .columns, s .pre .1 .few-columns)
 
 pub plan-hamming-spec : {M : Type 1} → statement M
 plan-hamming-spec =

@@ -1,6 +1,6 @@
 -- The address of a card below n lies within the plan. Assumes nothing.
 use native.Mathlib.Omega.{arith}
-use Rattle.reader.proofs.AddressPart.{address-refused, address-outside, address-place, address-inside}
+use Rattle.reader.proofs.AddressPart.{address-refused, address-outside, read-laid-out, address-place, address-handed}
 use borrow.Author.Needs.{needs}
 use Rattle.reader.proofs.read.card_address.Statement.{statement}
 use Rattle.reader.proofs.read.card_address.Tie as tie
@@ -22,7 +22,7 @@ returns c =
     let at-read-plan = c .before .before .before in
     let at-args = at-read-plan .before .before in
     address-refused (at-args .args .plan .now) (at-args .args .card) (at-read-plan .read-plan .result)
-    (at-read-plan .read-plan .ensures .0) (c .before .if1 .taken)
+    (at-read-plan .read-plan .ensures .0) (c .before .if1 .taken) (at-args .args .plan .ptr) _
 
 sub-result-2 : tie.Need-sub-result-2
 sub-result-2 c = search needs
@@ -39,7 +39,7 @@ returns-2 c =
     let at-read-plan = at-if1 .before .before in
     let at-args = at-read-plan .before .before in
     address-outside (at-args .args .plan .now) (at-args .args .card) (at-read-plan .read-plan .result)
-    (at-read-plan .read-plan .ensures .0) (at-if1 .if1 .left) (c .before .if2 .taken)
+    (at-read-plan .read-plan .ensures .0) (at-if1 .if1 .left) (c .before .if2 .taken) (at-args .args .plan .ptr) _
 
 add-size : tie.Need-add-size
 add-size c =
@@ -48,8 +48,8 @@ add-size c =
     let at-args = at-read-plan .before .before in
     omega (
       arith,
-      address-place (at-args .args .plan .now) (at-args .args .card) (at-read-plan .read-plan .result)
-          (at-read-plan .read-plan .ensures .0) (at-if1 .if1 .left) (omega (arith, c .before .if2 .left)) .columns,
+      read-laid-out (at-args .args .plan .now) (at-args .args .card) (at-read-plan .read-plan .result)
+          (at-read-plan .read-plan .ensures .0) (at-if1 .if1 .left) .few-columns,
     )
 
 cast-size : tie.Need-cast-size
@@ -120,8 +120,8 @@ returns-3 c =
     let at-if1 = at-if2 .before .before in
     let at-read-plan = at-if1 .before .before in
     let at-args = at-read-plan .before .before in
-    address-inside (at-args .args .plan .now) (at-args .args .card) (at-read-plan .read-plan .result)
-    (at-read-plan .read-plan .ensures .0) (at-if1 .if1 .left) (omega (arith, at-if2 .if2 .left))
+    address-handed (at-args .args .plan .now) (at-args .args .card) (at-read-plan .read-plan .result)
+    (at-read-plan .read-plan .ensures .0) (at-if1 .if1 .left) (omega (arith, at-if2 .if2 .left)) (at-args .args .plan .ptr) _
 
 pub card-address-spec : {M : Type 1} → statement M
 card-address-spec =

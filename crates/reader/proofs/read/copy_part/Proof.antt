@@ -3,8 +3,8 @@ use mathlib.Core.Path.{_≡_, subst}
 use Prim.Native.Nat.{ℕ, _-_, _≤_}
 use native.Mathlib.Omega.{arith}
 use lib.ListN.{take, drop}
-use Rattle.planner.specs.Writing.{Appends}
-use Rattle.planner.proofs.Appending.{Appended, appended-none, appended-byte}
+use Rattle.rack.specs.Buffers.{Appends}
+use Rattle.rack.proofs.Appending.{Appended, appended-none, appended-byte}
 use Rattle.reader.proofs.Parts.{part-snoc, length-part}
 use Rattle.reader.proofs.read.copy_part.Statement.{statement}
 use Rattle.reader.proofs.read.copy_part.Tie as tie

@@ -1,5 +1,5 @@
 -- `links::links_fault` meets its contract. The loop's invariant: the marks are those of the first `i` links, and none of these is in fault. Assumes nothing.
-use Rattle.survey.proofs.Zeros.{zeros-long}
+use Rattle.rack.proofs.Zeros.{zeros-long}
 use Rattle.survey.specs.Marks.{Marked}
 use Rattle.rack.specs.WiringFile.{file-wiring}
 use Rattle.survey.proofs.Forms.{links-are, fault-is}

@@ -1,6 +1,6 @@
 -- `reach::reach` meets its contract. The loop's invariant: every flagged card can be reached, and once a pass moved none, all that can be reached are flagged.
 -- A pass adds a flag, of which there are at most 256, or ends the loop. Assumes nothing.
-use Rattle.survey.proofs.Zeros.{zeros-long}
+use Rattle.rack.proofs.Zeros.{zeros-long}
 use Rattle.survey.proofs.Forms.{cards-are}
 use Rattle.survey.proofs.Flags.{first-flag, few-flags, spread-reached}
 use Rattle.survey.specs.Flags.{flags as flag-count, Flagged, Reached}

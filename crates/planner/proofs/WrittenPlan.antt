@@ -1,0 +1,69 @@
+-- The bytes of a plan, written from their start on: sizes, ends, addresses. Assumes nothing.
+use mathlib.Core.Path.{_≡_, refl, sym}
+use mathlib.Core.List.{List, [], _++_}
+use Prim.Native.Nat.{ℕ, _+_, _*_, _≤_, _<_}
+use native.Mathlib.Nat.{suc-mul, mul-le-mul, mul-le-mul-right}
+use native.Mathlib.Omega.{arith}
+use lib.ListN.{length, replicate, length-append}
+use Rattle.rack.specs.Lists.{tabulate, blocks}
+use Rattle.rack.specs.Buffers.{number-at, two-bytes, Written, Appends}
+use Rattle.rack.proofs.Appending.{written-none, appends-then}
+use Rattle.rack.proofs.Tables.{length-tabulate, length-blocks}
+use Rattle.rack.proofs.WiringFile.{length-two-bytes}
+use Rattle.rack.specs.Limits.{lent-plan}
+use Rattle.rack.specs.PlanFile.{address-size, addresses-start}
+use Rattle.survey.specs.Formed.{Sizes-are}
+use Rattle.planner.specs.Writing.{end-pair, word-byte, written-bytes}
+
+-- THE ADDRESSES of cards, one after another
+pub address-room : (c n size : ℕ) → c < n → c * size + size ≤ n * size
+address-room c n size h = omega (arith, suc-mul c size, mul-le-mul-right size h)
+
+pub addresses-room : (n size : ℕ) → n ≤ 256 → size ≤ 32 → n * size ≤ 8192
+addresses-room n size hn hs = mul-le-mul {n₂ = 256} {m₂ = 32} hn hs
+
+-- THE THREE SIZES, and then the whole plan
+pub sizes-appended : (n m k : ℕ) (o₀ o₁ o₂ o₃ : List ℕ) → Appends 0 o₀ o₁ (two-bytes n) → Appends 2 o₁ o₂ (two-bytes m) → Appends 4 o₂ o₃ (two-bytes k)
+    → Appends 0 o₀ o₃ (two-bytes n ++ two-bytes m ++ two-bytes k)
+sizes-appended n m k o₀ o₁ o₂ o₃ a b c =
+    appends-then 0 4 o₀ o₂ o₃ (two-bytes n ++ two-bytes m) (two-bytes k) (simp (length-append, length-two-bytes) refl)
+    (appends-then 0 2 o₀ o₁ o₂ (two-bytes n) (two-bytes m) (simp length-two-bytes refl) a b) c
+
+module _ (bs ws : List ℕ) (n m k : ℕ) (sizes : Sizes-are bs n m) where
+  abbrev addresses : List ℕ
+  addresses = blocks n (λ c. tabulate (address-size k) (word-byte ws c))
+
+  abbrev head : List ℕ
+  head = two-bytes n ++ two-bytes m ++ two-bytes k
+
+  length-ends : length (blocks (2 * m) (end-pair bs)) ≡ 4 * m
+  length-ends = omega (arith, length-blocks (2 * m) 2 (end-pair bs) (λ i. length-two-bytes (number-at bs (4 + 2 * i))))
+
+  length-head : length head ≡ 6
+  length-head = simp (length-append, length-two-bytes) refl
+
+  pub plan-written : (size at : ℕ) (o₀ o₁ o₂ o₃ : List ℕ) → size ≡ address-size k → at ≡ addresses-start m + 0 * size → o₀ ≡ replicate lent-plan 0
+      → Appends 0 o₀ o₁ head → Appends 6 o₁ o₂ (blocks (2 * m) (end-pair bs)) → Appends at o₂ o₃ (blocks n (λ c. tabulate size (word-byte ws c)))
+      → Written o₃ (written-bytes bs ws k)
+  unfolding written-bytes
+  plan-written size at o₀ o₁ o₂ o₃ e e′ z a b c =
+      let start : at ≡ addresses-start m = omega arith in
+      rw (← (sizes .cards), ← (sizes .links))
+      (appends-then 0 (addresses-start m) o₀ o₂ o₃ (head ++ blocks (2 * m) (end-pair bs)) addresses
+      (simp length-append (omega (arith, length-two-bytes n, length-two-bytes m, length-two-bytes k, length-ends)))
+      (appends-then 0 6 o₀ o₁ o₂ head (blocks (2 * m) (end-pair bs)) (omega (arith, length-head)) a b)
+      (rw (start, e) at c) [] refl (rw z (written-none lent-plan)))
+
+  pub plan-length : (size r : ℕ) → size ≡ address-size k → r ≡ addresses-start m + n * size → r ≡ length (written-bytes bs ws k)
+  unfolding written-bytes
+  plan-length size r e e′ =
+      rw (← (sizes .cards), ← (sizes .links), e′, e)
+      (sym (simp length-append (omega (
+        arith,
+        length-two-bytes n,
+        length-two-bytes m,
+        length-two-bytes k,
+        length-ends,
+        length-blocks n
+            (address-size k) (λ c. tabulate (address-size k) (word-byte ws c)) (λ c. length-tabulate (address-size k) (word-byte ws c)),
+      ))))

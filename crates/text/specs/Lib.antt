@@ -1,0 +1,4 @@
+pub mod Codes
+pub mod Decimals
+pub mod Putting
+pub mod Promises
