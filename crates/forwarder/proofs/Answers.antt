@@ -9,7 +9,7 @@ use lib.Dec.{leb, eqb}
 use lib.ListN.{length}
 use borrow.Author.Tests.{eq-eqb, ne-eqb, le-leb, lt-leb}
 use Rattle.forwarder.specs.Forwarding.{walk}
-use Rattle.forwarder.specs.Calls.{step-refusal, most-traffic, takes, can-take, walk-refusal, Walk-says}
+use Rattle.forwarder.specs.Calls.{step-refusal, most-traffic, takes, takes-walk, walk-refusal, Walk-says}
 use Rattle.forwarder.specs.Parts.{Route-is, Unwalked, Counted}
 use Rattle.forwarder.specs.declared.walk.Traffic.{Traffic}
 use Rattle.forwarder.specs.declared.walk.Walked.{Walked}
@@ -17,7 +17,7 @@ use Rattle.forwarder.specs.declared.walk.Route.{Route}
 
 -- THE COUNTS
 module _ (t : Traffic) (o h : ℕ) where
-  takes-stuck : o ≡ 0 → takes t o h ≡ true
+  pub takes-stuck : o ≡ 0 → takes t o h ≡ true
   unfolding takes
   takes-stuck e = rw (eq-eqb o 0 e) refl
 
@@ -104,7 +104,7 @@ module _ (ps : List ℕ) (a b : ℕ) (t : Traffic) (old : List ℕ) where
     says-walked new f =
         record {
           number =
-              k .number ∙ ap (λ (x : Bool). cond x 0 15) (ap₂ (takes t) (w .arrived) (w .hops)) ∙ cond-not (can-take t (walk ps a b))
+              k .number ∙ ap (λ (x : Bool). cond x 0 15) (ap₂ (takes t) (w .arrived) (w .hops)) ∙ cond-not (takes-walk t (walk ps a b))
               ∙ rw (eq-eqb (length old) 256 l, eq-eqb (step-refusal ps a b) 0 e) refl;
           arrived = k .arrived ∙ ap (λ (x : ℕ). cond (eqb (r .number) 0) x 0) (w .arrived);
           hops = k .hops ∙ ap (λ (x : ℕ). cond (eqb (r .number) 0) x 0) (w .hops);

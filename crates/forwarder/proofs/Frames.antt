@@ -6,7 +6,7 @@ use Prim.Native.Nat.{ℕ, _≤_, _<_}
 use native.Mathlib.Omega.{arith}
 use lib.Dec.{leb}
 use borrow.Author.Tests.{eq-eqb, ne-eqb, le-leb, lt-leb}
-use Rattle.rack.proofs.Logic.{or-right}
+use Rattle.rack.proofs.Logic.{by-eq, by-lt, or-right}
 use Rattle.rack.specs.PlanFile.{plan-cards}
 use Rattle.reader.specs.Reading.{layout-refusal, Layout-says}
 use Rattle.reader.specs.declared.layout.Sizes.{Sizes}
@@ -31,6 +31,15 @@ module _ (ps : List ℕ) (a b : ℕ) where
   unfolding step-refusal
   both-cards e h k = rw (eq-eqb (layout-refusal ps) 0 e, lt-leb (plan-cards ps) a h, lt-leb (plan-cards ps) b k) refl
 
+  pub answered-cards : step-refusal ps a b ≡ 0 → (a < plan-cards ps) × (b < plan-cards ps)
+  answered-cards e =
+      by-eq (layout-refusal ps) 0
+      (λ l. (below a (λ h. no-card l (inl h)), below b (λ h. no-card l (inr h))))
+      (λ n. absurd (n (sym (no-plan n) ∙ e)))
+    where
+      below : (c : ℕ) → (plan-cards ps ≤ c → step-refusal ps a b ≡ 14) → c < plan-cards ps
+      below c fourteen = by-lt c (plan-cards ps) (λ h. h) (λ h. let f = fourteen h in absurd (omega arith))
+
   -- THE SIZES for a frame
   module _ (r : Sizes) (s : Layout-says ps r) where
     pub sizes-no-plan : r .number ≢ 0 → Frame-sizes ps a b r
@@ -39,7 +48,7 @@ module _ (ps : List ℕ) (a b : ℕ) where
           number = s .number ∙ sym (no-plan (λ e. n (s .number ∙ e)));
           sizes = λ e. absurd (n e);
           from = λ e. absurd (n e);
-          to = λ e. absurd (n e);
+          goal = λ e. absurd (n e);
         }
 
     pub sizes-no-card : (q : Sizes) → r .number ≡ 0 → (r .cards ≤ a) ⊎ (r .cards ≤ b) → q .number ≡ 14 → Frame-sizes ps a b q
@@ -49,7 +58,7 @@ module _ (ps : List ℕ) (a b : ℕ) where
           number = f ∙ sym (no-card (sym (s .number) ∙ e) (rw (z .cards) at h));
           sizes = λ g. absurd (omega arith);
           from = λ g. absurd (omega arith);
-          to = λ g. absurd (omega arith);
+          goal = λ g. absurd (omega arith);
         }
 
     pub sizes-both-cards : r .number ≡ 0 → a < r .cards → b < r .cards → Frame-sizes ps a b r
@@ -59,7 +68,7 @@ module _ (ps : List ℕ) (a b : ℕ) where
           number = e ∙ sym (both-cards (sym (s .number) ∙ e) (rw (z .cards) at h) (rw (z .cards) at k));
           sizes = λ g. z;
           from = λ g. h;
-          to = λ g. k;
+          goal = λ g. k;
         }
 
   -- THE ANSWER of a step

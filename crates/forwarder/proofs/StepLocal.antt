@@ -6,7 +6,7 @@ use mathlib.Core.List.{List}
 use Prim.Native.Nat.{ℕ, _≤_, _<_}
 use native.Mathlib.Omega.{arith}
 use lib.Dec.{ltb, eqb}
-use borrow.Author.Tests.{le-ltb}
+use borrow.Author.Tests.{le-ltb, ne-eqb}
 use Rattle.rack.specs.Lists.{lowest}
 use Rattle.rack.specs.Wiring.{Link, link-count, link-at, touches, other-end}
 use Rattle.rack.proofs.Logic.{by-bool, by-eq, by-lt}
@@ -21,6 +21,7 @@ use Rattle.forwarder.specs.Forwarding.{Step, step-of, leads-nearer, step
 use Rattle.forwarder.specs.Promises.{Link-of, Step-local, Step-call-local}
 use Rattle.forwarder.specs.Calls.{step-refusal}
 use Rattle.forwarder.specs.declared.step.Stepped.{Stepped}
+use Rattle.forwarder.proofs.Frames.{answered-cards}
 use Rattle.forwarder.proofs.Stepping.{touches-ends, nearer-facts, next-link, step-here, step-over, step-stuck}
 
 -- the test of a link by card a and the other end
@@ -46,7 +47,7 @@ plan-hamming-ext ps qs c d b e hc hb =
 
 pub step-local : Step-local
 unfolding Step-local
-step-local ps qs a b en em ek touch other bits far = by-eq a b here there
+step-local ps qs a b en em ek touch other far own goal = by-eq a b here there
   where
     counts : link-count (plan-wiring ps) ≡ link-count (plan-wiring qs)
     counts = wiring-at-count 6 ps ∙ em ∙ sym (wiring-at-count 6 qs)
@@ -55,13 +56,13 @@ step-local ps qs a b en em ek touch other bits far = by-eq a b here there
     here e = rw e (step-here ps b ∙ sym (step-here qs b))
 
     same-hamming : plan-hamming ps a b ≡ plan-hamming qs a b
-    same-hamming = plan-hamming-ext ps qs a a b ek (λ j l. bits j l .0) (λ j l. bits j l .1)
+    same-hamming = plan-hamming-ext ps qs a a b ek own goal
 
     far-hamming : (i : ℕ) → Link-of ps a i → other-end a (link-at (plan-wiring ps) i) < plan-cards ps
         → plan-hamming ps (other-end a (link-at (plan-wiring ps) i)) b ≡ plan-hamming qs (other-end a (link-at (plan-wiring qs) i)) b
     far-hamming i h below =
         plan-hamming-ext ps qs (other-end a (link-at (plan-wiring ps) i)) (other-end a (link-at (plan-wiring qs) i)) b ek
-        (λ j l. far i j h l below ∙ ap (λ (c : ℕ). plan-bit qs c j) (other i h)) (λ j l. bits j l .1)
+        (λ j l. far i h below j l ∙ ap (λ (c : ℕ). plan-bit qs c j) (other i h)) goal
 
     no-card : (rs : List ℕ) (c : ℕ) → plan-cards rs ≤ c → other-test rs a b c ≡ false
     no-card rs c above = rw (le-ltb c (plan-cards rs) above, and-false (ltb a (plan-cards rs))) refl
@@ -113,15 +114,18 @@ module _ (r s : Stepped) (number : r .number ≡ s .number) (outcome : r .outcom
 -- THE CALL: the layout depends on the length and the sizes, and the refusal on these and the cards
 pub step-call-local : Step-call-local
 unfolding Step-call-local Step-local layout-holds layout-refusal step-refusal
-step-call-local ps qs a b en em ek touch other bits far r s long hr hs =
+step-call-local ps qs a b r s en em ek touch other far own goal long hr hs =
     same-stepped r s (hr .number ∙ refusals ∙ sym (hs .number)) (same (λ x. x .outcome) (hr .outcome) (hs .outcome))
     (same (λ x. x .link) (hr .link) (hs .link)) (same (λ x. x .far) (hr .far) (hs .far))
   where
     refusals : step-refusal ps a b ≡ step-refusal qs a b
     refusals = rw (long, en, em, ek) refl
 
-    steps : step ps a b ≡ step qs a b
-    steps = step-local ps qs a b en em ek touch other bits far
+    steps : step-refusal ps a b ≡ 0 → step ps a b ≡ step qs a b
+    steps e = let cards = answered-cards ps a b e in step-local ps qs a b en em ek touch other far (own (cards .0)) (goal (cards .1))
 
     same : (f : Step → ℕ) {x y : ℕ} → x ≡ cond (eqb (step-refusal ps a b) 0) (f (step ps a b)) 0 → y ≡ cond (eqb (step-refusal qs a b) 0) (f (step qs a b)) 0 → x ≡ y
-    same f hx hy = hx ∙ ap₂ (λ (n : ℕ) (v : Step). cond (eqb n 0) (f v) 0) refusals steps ∙ sym hy
+    same f hx hy =
+        hx ∙ by-eq (step-refusal ps a b) 0
+        (λ e. ap₂ (λ (n : ℕ) (v : Step). cond (eqb n 0) (f v) 0) refusals (steps e))
+        (λ (n : step-refusal ps a b ≢ 0). rw (ne-eqb (step-refusal ps a b) 0 n, ne-eqb (step-refusal qs a b) 0 (λ e. n (refusals ∙ e))) refl) ∙ sym hy

@@ -33,6 +33,10 @@ pub record Step-says (ps : List ℕ) (a b : ℕ) (r : Stepped) : Type 0 where
   pub link : r .link ≡ cond (eqb (step-refusal ps a b) 0) (step ps a b .link) 0
   pub far : r .far ≡ cond (eqb (step-refusal ps a b) 0) (step ps a b .far) 0
 
+-- the lent numbers, one for each card
+abbrev pub lent-met : ℕ
+lent-met = 256
+
 -- a traffic count is 32 bits wide
 abbrev pub most-traffic : ℕ
 most-traffic = 4294967295
@@ -44,14 +48,14 @@ walk-hops v = length (v .met) - 1
 unfoldable pub takes : Traffic → (arrived hops : ℕ) → Bool
 takes t o h = eqb o 0 || (leb (suc (t .frames)) most-traffic && leb (t .hops + h) most-traffic)
 
-abbrev pub can-take : Traffic → Walk → Bool
-can-take t v = takes t (v .arrived) (walk-hops v)
+abbrev pub takes-walk : Traffic → Walk → Bool
+takes-walk t v = takes t (v .arrived) (walk-hops v)
 
--- 1: the lent buffer has not 256 numbers; 12; 14; 15
+-- 1: the lent buffer has not its length; 12; 14; 15
 unfoldable pub walk-refusal : List ℕ → (a b : ℕ) → Traffic → (room : ℕ) → ℕ
 walk-refusal ps a b t room =
-    cond (not (eqb room 256)) 1
-    (cond (not (eqb (step-refusal ps a b) 0)) (step-refusal ps a b) (cond (not (can-take t (walk ps a b))) 15 0))
+    cond (not (eqb room lent-met)) 1
+    (cond (not (eqb (step-refusal ps a b) 0)) (step-refusal ps a b) (cond (not (takes-walk t (walk ps a b))) 15 0))
 
 -- with 0 the walk's answer, its counts raised where it arrived, the cards met and zeros behind them; else all is as it was
 pub record Walk-says (ps : List ℕ) (a b : ℕ) (t : Traffic) (r : Walked) (old new : List ℕ) : Type 0 where
@@ -60,14 +64,14 @@ pub record Walk-says (ps : List ℕ) (a b : ℕ) (t : Traffic) (r : Walked) (old
   pub hops : r .hops ≡ cond (eqb (r .number) 0) (walk-hops (walk ps a b)) 0
   pub frames : r .traffic .frames ≡ t .frames + r .arrived
   pub total : r .traffic .hops ≡ t .hops + r .arrived * r .hops
-  pub met : new ≡ cond (eqb (r .number) 0) (walk ps a b .met ++ replicate (256 - length (walk ps a b .met)) 0) old
+  pub met : new ≡ cond (eqb (r .number) 0) (walk ps a b .met ++ replicate (lent-met - length (walk ps a b .met)) 0) old
 
--- a frame: its plan was read, both numbers are cards, and the lent buffer has its 256 numbers
+-- a frame: its plan was read, both numbers are cards, and the lent buffer has its length
 pub record Frame (ps : List ℕ) (a b : ℕ) (old : List ℕ) : Type 0 where
   pub read : plan-refusal ps ≡ 0
   pub from : a < plan-cards ps
-  pub to : b < plan-cards ps
-  pub room : length old ≡ 256
+  pub goal : b < plan-cards ps
+  pub room : length old ≡ lent-met
 
 -- it arrives by the fewest links (demand 3): the answer, the counts, the cards met with zeros behind them
 pub record Arrived (ps : List ℕ) (a b : ℕ) (t : Traffic) (r : Walked) (new : List ℕ) : Type 0 where
@@ -84,6 +88,8 @@ pub record Arrived (ps : List ℕ) (a b : ℕ) (t : Traffic) (r : Walked) (new :
 -- a count can't take it: 15, and all is as it was
 pub record Full (t : Traffic) (r : Walked) (old new : List ℕ) : Type 0 where
   pub number : r .number ≡ 15
+  pub arrived : r .arrived ≡ 0
+  pub hops : r .hops ≡ 0
   pub frames : r .traffic .frames ≡ t .frames
   pub total : r .traffic .hops ≡ t .hops
   pub met : new ≡ old

@@ -5,12 +5,13 @@ use mathlib.Core.List.{List, _++_}
 use Prim.Native.Nat.{ℕ, _+_, _*_, _-_, _≤_, _<_}
 use lib.Dec.{ltb, eqb}
 use lib.ListN.{length, getD, replicate}
+use Rattle.rack.specs.Limits.{most-cards}
 use Rattle.rack.specs.Wiring.{Link, touches, other-end}
 use Rattle.rack.specs.PlanFile.{plan-hamming}
 use Rattle.reader.specs.Reading.{Laid-out}
 use Rattle.reader.specs.declared.layout.Sizes.{Sizes}
 use Rattle.forwarder.specs.Forwarding.{Walk}
-use Rattle.forwarder.specs.Calls.{step-refusal, walk-hops, takes}
+use Rattle.forwarder.specs.Calls.{step-refusal, lent-met, walk-hops, takes}
 use Rattle.forwarder.specs.declared.step.Stepped.{Stepped}
 use Rattle.forwarder.specs.declared.walk.Traffic.{Traffic}
 use Rattle.forwarder.specs.declared.walk.Walked.{Walked}
@@ -22,7 +23,7 @@ far-card n a l = cond (ltb (l .first) n && ltb (l .second) n && touches a l) (ot
 
 -- the cards marked differ from card b in no fewer places than `left`
 pub record No-nearer (ps : List ℕ) (b left : ℕ) (marks : List Bool) : Type 0 where
-  pub far : (c : ℕ) → c < 256 → getD marks c false ≡ true → ltb (plan-hamming ps c b) left ≡ false
+  pub far : (c : ℕ) → c < most-cards → getD marks c false ≡ true → ltb (plan-hamming ps c b) left ≡ false
 
 -- a step's answer that is not over a link
 pub record No-link (x o : ℕ) (r : Stepped) : Type 0 where
@@ -36,15 +37,15 @@ pub record Frame-sizes (ps : List ℕ) (a b : ℕ) (r : Sizes) : Type 0 where
   pub number : r .number ≡ step-refusal ps a b
   pub sizes : r .number ≡ 0 → Laid-out ps (r .cards) (r .links) (r .columns)
   pub from : r .number ≡ 0 → a < r .cards
-  pub to : r .number ≡ 0 → b < r .cards
+  pub goal : r .number ≡ 0 → b < r .cards
 
 -- how a walk ended, its hops, and the cards met with zeros behind them
 pub record Route-is (v : Walk) (r : Route) : Type 0 where
   pub arrived : r .arrived ≡ v .arrived
   pub ended : r .arrived ≤ 1
   pub hops : r .hops ≡ walk-hops v
-  pub room : length (r .met) ≡ 256
-  pub met : r .met ≡ v .met ++ replicate (256 - length (v .met)) 0
+  pub room : length (r .met) ≡ lent-met
+  pub met : r .met ≡ v .met ++ replicate (lent-met - length (v .met)) 0
 
 -- a refused walk: zeros, and the counts as they were
 pub record Unwalked (number : ℕ) (t : Traffic) (r : Walked) : Type 0 where

@@ -12,6 +12,7 @@ ghost use Rattle.forwarder.specs.Calls.{Step-is, Step-says};
 ghost use Rattle.forwarder.specs.Parts.{far-card, Frame-sizes, No-link, No-nearer};
 use rack::bytes::first_end;
 use rack::bytes::second_end;
+use rack::limits::MOST_CARDS;
 use rack::ones::ones_table;
 use reader::layout::Sizes;
 use reader::layout::plan_layout;
@@ -58,7 +59,7 @@ fn is_nearer(
     c: usize,
     b: usize,
     left: u32,
-    marks: &mut [bool; 256],
+    marks: &mut [bool; MOST_CARDS],
 ) -> bool
     requires { ⌜ Counts (now ones) × Laid-out (now plan) n m k × (b < n) × No-nearer (now plan) b left (now marks) ⌝ }
     ensures is { λ r. ⌜ r ≡ (ltb c n && ltb (plan-hamming (now (plan .entry)) c b) left) ⌝ }
@@ -106,7 +107,7 @@ pub fn step_between(
         return no_link(0, 1);
     }
     let left = plan_hamming(ones, plan, n, m, k, a, b);
-    let mut marks = [false; 256];
+    let mut marks = [false; MOST_CARDS];
     let mut i: usize = 0;
     while i < m {
         let c = far_card(plan, n, m, k, i, a);

@@ -7,11 +7,17 @@ ghost use Rattle.rack.specs.Ones.{Counts};
 ghost use Rattle.rack.specs.PlanFile.{plan-wiring};
 ghost use Rattle.reader.specs.Reading.{Laid-out};
 ghost use Rattle.forwarder.specs.Forwarding.{walk};
-ghost use Rattle.forwarder.specs.Calls.{Arrived, Can-take, Frame, Full, Walk-says};
+ghost use Rattle.forwarder.specs.Calls.{Arrived, Can-take, Frame, Full, Walk-says, lent-met};
 ghost use Rattle.forwarder.specs.Parts.{Counted, Route-is, Unwalked};
 use crate::step::frame_sizes;
 use crate::step::step_between;
 use rack::ones::ones_table;
+
+// The length of the lent numbers, one for each card.
+pub const LENT_MET: usize = 256;
+
+// A traffic count is 32 bits wide.
+const MOST_TRAFFIC: u32 = 4294967295;
 
 // Frames that arrived, and their hops.
 pub struct Traffic {
@@ -31,7 +37,7 @@ pub struct Walked {
 struct Route {
     arrived: u32,
     hops: u32,
-    met: [u16; 256],
+    met: [u16; LENT_MET],
 }
 
 // Walks from card `a` to card `b`.
@@ -47,7 +53,7 @@ fn walk_between(
     requires { ⌜ Counts (now ones) × Laid-out (now plan) n m k × (a < n) × (b < n) ⌝ }
     ensures { λ r. ⌜ Route-is (walk (now (plan .entry)) a b) r ⌝ }
 {
-    let mut met = [0u16; 256];
+    let mut met = [0u16; LENT_MET];
     met[0] = a as u16;
     let mut taken: usize = 0;
     let mut s = step_between(ones, plan, n, m, k, a, b);
@@ -89,10 +95,10 @@ fn counted(traffic: Traffic, arrived: u32, hops: u32) -> Walked
             traffic: traffic,
         };
     }
-    if traffic.frames == 4294967295 {
+    if traffic.frames == MOST_TRAFFIC {
         return not_walked(15, traffic);
     }
-    if 4294967295 - traffic.hops < hops {
+    if MOST_TRAFFIC - traffic.hops < hops {
         return not_walked(15, traffic);
     }
     let raised = Traffic {
@@ -107,13 +113,13 @@ fn counted(traffic: Traffic, arrived: u32, hops: u32) -> Walked
     }
 }
 
-// Copies 256 numbers.
-fn copy_cards(cards: &[u16; 256], met: &mut [u16])
-    requires { ⌜ (length (now cards) ≡ 256) × (length (now met) ≡ 256) ⌝ }
+// Copies the cards met.
+fn copy_cards(cards: &[u16; LENT_MET], met: &mut [u16])
+    requires { ⌜ (length (now cards) ≡ lent-met) × (length (now met) ≡ lent-met) ⌝ }
     ensures { λ _. ⌜ now (met .exit) ≡ now (cards .entry) ⌝ }
 {
     let mut i: usize = 0;
-    while i < 256 {
+    while i < LENT_MET {
         met[i] = cards[i];
         i += 1;
     }
@@ -125,7 +131,7 @@ pub fn walk_frame(plan: &[u8], from: u32, goal: u32, traffic: Traffic, met: &mut
     ensures arrives { λ r. ⌜ (Frame (now (plan .entry)) from goal (now (met .entry)) → Can-take traffic (hops (plan-wiring (now (plan .entry))) from goal) → Arrived (now (plan .entry)) from goal traffic r (now (met .exit))) ⌝ }
     ensures full { λ r. ⌜ (Frame (now (plan .entry)) from goal (now (met .entry)) → (Can-take traffic (hops (plan-wiring (now (plan .entry))) from goal) → ⊥) → Full traffic r (now (met .entry)) (now (met .exit))) ⌝ }
 {
-    if met.len() != 256 {
+    if met.len() != LENT_MET {
         return not_walked(1, traffic);
     }
     let sizes = frame_sizes(plan, from, goal);
