@@ -11,14 +11,14 @@ use Rattle.rack.specs.Wiring.{Link, Wiring, link, link-count, link-at, linked, 
 use Rattle.rack.specs.Hops.{hops, is-path}
 use Rattle.rack.proofs.Logic.{by-eq, and-both}
 use Rattle.rack.proofs.Lists.{In, in-getD, getD-in}
-use Rattle.rack.proofs.Paths.{Ends, linked-link, link-linked}
+use Rattle.rack.proofs.Paths.{Ends, touches-ends, ends-touch, other-end-below, linked-link, link-linked}
 use Rattle.rack.proofs.Hops.{hops-self, hops-zero, hops-triangle, hops-linked, hops-down}
 use Rattle.rack.proofs.WiringFile.{wiring-at-cards}
 use Rattle.rack.specs.PlanFile.{plan-cards, plan-columns, plan-wiring}
 use Rattle.reader.specs.Promises.{Measured}
 use Rattle.reader.proofs.Addresses.{hamming-columns}
 use Rattle.forwarder.specs.Forwarding.{Walk, walk-of, step, walk-from, walk}
-use Rattle.forwarder.proofs.Stepping.{touches-ends, ends-touch, other-end-below, facts-nearer, step-here, step-two, nearer-two}
+use Rattle.forwarder.proofs.Stepping.{facts-nearer, step-here, step-two, nearer-two}
 use Rattle.forwarder.proofs.Walking.{walk-ended, after, walk-goes-on}
 
 module _ (ps : List ℕ) (m : Measured ps) where

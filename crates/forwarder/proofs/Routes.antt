@@ -7,12 +7,13 @@ use native.Mathlib.Omega.{arith}
 use lib.ListN.{length, set, replicate, length-append, length-replicate}
 use lib.Seq.{append-snoc, set-at}
 use Rattle.rack.specs.PlanFile.{plan-cards, plan-columns, plan-hamming}
+use Rattle.rack.proofs.Paths.{other-end-below}
 use Rattle.reader.proofs.Addresses.{hamming-columns}
 use Rattle.forwarder.specs.Forwarding.{Walk, step, walk-from, walk}
 use Rattle.forwarder.specs.Calls.{Step-is, walk-hops}
 use Rattle.forwarder.specs.Parts.{Route-is}
 use Rattle.forwarder.specs.declared.step.Stepped.{Stepped}
-use Rattle.forwarder.proofs.Stepping.{step-two, step-less, step-outcome-le, other-end-below}
+use Rattle.forwarder.proofs.Stepping.{step-two, step-less, step-outcome-le}
 use Rattle.forwarder.proofs.Walking.{walk-ended, after, walk-goes-on}
 
 -- the whole walk is what is still to be walked, behind the cards left

@@ -11,6 +11,7 @@ use lib.Seq.{getD-set-other}
 use borrow.Author.Count.{below-more}
 use borrow.Author.Tests.{eq-eqb, ne-eqb, ltb-true, lt-ltb, le-ltb}
 use Rattle.rack.specs.Wiring.{Link, link-at, touches, other-end}
+use Rattle.rack.proofs.Paths.{other-end-below}
 use Rattle.rack.proofs.Logic.{true-not-false, by-bool, by-eq, and-left, and-right}
 use Rattle.rack.proofs.WiringFile.{wiring-at-count}
 use Rattle.rack.specs.PlanFile.{plan-cards, plan-wiring, plan-hamming}
@@ -20,7 +21,7 @@ use Rattle.forwarder.specs.Promises.{Step-first}
 use Rattle.forwarder.specs.Calls.{Step-is}
 use Rattle.forwarder.specs.Parts.{far-card, No-link, No-nearer}
 use Rattle.forwarder.specs.declared.step.Stepped.{Stepped}
-use Rattle.forwarder.proofs.Stepping.{other-end-below, step-here, step-first}
+use Rattle.forwarder.proofs.Stepping.{step-here, step-first}
 
 -- THE FAR CARD
 module _ (n a : ℕ) (l : Link) where

@@ -12,7 +12,7 @@ use Rattle.rack.specs.Wiring.{Link, link-count, link-at, touches, other-end}
 use Rattle.rack.proofs.Logic.{by-bool, by-eq, by-lt}
 use Rattle.rack.proofs.Tables.{lowest-passes, lowest-ext}
 use Rattle.rack.proofs.Hamming.{hamming-ext}
-use Rattle.rack.proofs.Paths.{Ends}
+use Rattle.rack.proofs.Paths.{Ends, touches-ends}
 use Rattle.rack.proofs.WiringFile.{wiring-at-count}
 use Rattle.rack.specs.PlanFile.{plan-cards, plan-columns, plan-wiring, plan-bit, plan-hamming}
 use Rattle.reader.specs.Plan.{layout-holds}
@@ -22,7 +22,7 @@ use Rattle.forwarder.specs.Promises.{Link-of, Step-local, Step-call-loca
 use Rattle.forwarder.specs.Calls.{step-refusal}
 use Rattle.forwarder.specs.declared.step.Stepped.{Stepped}
 use Rattle.forwarder.proofs.Frames.{answered-cards}
-use Rattle.forwarder.proofs.Stepping.{touches-ends, nearer-facts, next-link, step-here, step-over, step-stuck}
+use Rattle.forwarder.proofs.Stepping.{nearer-facts, next-link, step-here, step-over, step-stuck}
 
 -- the test of a link by card a and the other end
 abbrev other-test : List ℕ → (a b c : ℕ) → Bool

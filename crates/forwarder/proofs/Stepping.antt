@@ -1,41 +1,19 @@
 -- Steps: when a step is taken, what it lessens, and what it depends on. Assumes nothing.
-use mathlib.Core.Path.{_≡_, refl, sym, _∙_, subst}
+use mathlib.Core.Path.{_≡_, refl, subst}
 use mathlib.Core.Bool.{Bool, true, false, _&&_}
-use mathlib.Core.Logic.{inl, inr, ⊎-elim, _≢_}
+use mathlib.Core.Logic.{_≢_}
 use mathlib.Core.List.{List}
 use Prim.Native.Nat.{ℕ, _≤_, _<_}
 use native.Mathlib.Omega.{arith}
 use lib.Dec.{ltb, eqb}
-use borrow.Author.Tests.{eqb-true, eq-eqb, ne-eqb, ltb-true, lt-ltb, le-ltb}
+use borrow.Author.Tests.{eq-eqb, ne-eqb, ltb-true, lt-ltb, le-ltb}
 use Rattle.rack.specs.Lists.{lowest}
 use Rattle.rack.specs.Wiring.{Link, Wiring, link-count, link-at, touches, other-end}
-use Rattle.rack.proofs.Logic.{by-bool, by-eq, by-lt, or-cases, or-left, or-right, and-left, and-right}
+use Rattle.rack.proofs.Logic.{by-bool, by-eq, by-lt, and-left, and-right}
 use Rattle.rack.proofs.Tables.{lowest-passes, lowest-least, lowest-is}
-use Rattle.rack.proofs.Paths.{Ends}
 use Rattle.rack.specs.PlanFile.{plan-cards, plan-wiring, plan-hamming}
 use Rattle.forwarder.specs.Forwarding.{step-of, leads-nearer, step}
 use Rattle.forwarder.specs.Promises.{Step-first}
-
--- A LINK's other end
-pub touches-ends : (a : ℕ) (l : Link) → touches a l ≡ true → Ends a (other-end a l) l
-unfolding touches other-end
-touches-ends a l h =
-    by-eq (l .first) a
-    (λ e. rw (eq-eqb (l .first) a e) (inl (e, refl)))
-    (λ n. rw (ne-eqb (l .first) a n) (inr (
-      refl,
-      ⊎-elim (λ k. absurd (n (eqb-true (l .first) a k))) (λ k. eqb-true (l .second) a k)
-          (or-cases (eqb (l .first) a) (eqb (l .second) a) h),
-    )))
-
-pub ends-touch : (a c : ℕ) (l : Link) → Ends a c l → c ≢ a → (touches a l ≡ true) × (other-end a l ≡ c)
-unfolding touches other-end
-ends-touch a c l (inl e) n = (or-left (eqb (l .first) a) (eqb (l .second) a) (eq-eqb (l .first) a (e .0)), rw (eq-eqb (l .first) a (e .0)) (e .1))
-ends-touch a c l (inr e) n = (or-right (eqb (l .first) a) (eqb (l .second) a) (eq-eqb (l .second) a (e .1)), rw (ne-eqb (l .first) a (λ f. n (sym (e .0) ∙ f))) (e .0))
-
-pub other-end-below : (n a : ℕ) (l : Link) → l .first < n → l .second < n → other-end a l < n
-unfolding other-end
-other-end-below n a l h k = by-bool (eqb (l .first) a) (λ (t : eqb (l .first) a ≡ true). rw t k) (λ (t : eqb (l .first) a ≡ false). rw t h)
 
 module _ (ps : List ℕ) where
   abbrev inner : Wiring

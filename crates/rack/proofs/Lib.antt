@@ -8,6 +8,7 @@ pub mod Hops
 pub mod Columns
 pub mod Crossing
 pub mod Uniqueness
+pub mod Choices
 pub mod Refusals
 pub mod Acceptance
 pub mod FewColumns

@@ -1,18 +1,18 @@
 -- Links as pairs of cards, and paths: their first and last links, joined and reversed. Assumes nothing.
-use mathlib.Core.Path.{_≡_, refl, ap}
+use mathlib.Core.Path.{_≡_, refl, sym, ap, _∙_}
 use mathlib.Core.Bool.{Bool, true, false, _&&_}
-use mathlib.Core.Logic.{_⊎_, inl, inr, ⊎-elim}
+use mathlib.Core.Logic.{_⊎_, inl, inr, ⊎-elim, _≢_}
 use mathlib.Core.List.{List, [], _∷_}
 use Prim.Native.Nat.{ℕ, zero, suc, _+_, _<_}
 use native.Mathlib.Nat.{zero-add, suc-add}
 use native.Mathlib.Numerals.{add-one}
 use lib.Dec.{ltb, eqb}
 use lib.ListN.{length}
-use borrow.Author.Tests.{eqb-true, eq-eqb, ltb-true, lt-ltb}
+use borrow.Author.Tests.{eqb-true, eq-eqb, ne-eqb, ltb-true, lt-ltb}
 use Rattle.rack.specs.Lists.{range}
-use Rattle.rack.specs.Wiring.{Link, Wiring, joins, linked, neighbours}
+use Rattle.rack.specs.Wiring.{Link, Wiring, joins, linked, neighbours, touches, other-end}
 use Rattle.rack.specs.Hops.{has-path, is-path}
-use Rattle.rack.proofs.Logic.{true-not-false, by-bool, or-cases, or-left, or-right, and-left, and-right, and-both}
+use Rattle.rack.proofs.Logic.{true-not-false, by-bool, by-eq, or-cases, or-left, or-right, and-left, and-right, and-both}
 use Rattle.rack.proofs.Lists.{In, any-in, in-any, in-filter, filter-in}
 use Rattle.rack.proofs.Tables.{in-range, range-in}
 
@@ -36,6 +36,27 @@ ends-join a b l (inr e) = or-right (eqb (l .first) a && eqb (l .second) b) _ (an
 ends-sym : (a b : ℕ) (l : Link) → Ends a b l → Ends b a l
 ends-sym a b l (inl e) = inr e
 ends-sym a b l (inr e) = inl e
+
+-- a link of card a joins it to the other end
+pub touches-ends : (a : ℕ) (l : Link) → touches a l ≡ true → Ends a (other-end a l) l
+unfolding touches other-end
+touches-ends a l h =
+    by-eq (l .first) a
+    (λ e. rw (eq-eqb (l .first) a e) (inl (e, refl)))
+    (λ n. rw (ne-eqb (l .first) a n) (inr (
+      refl,
+      ⊎-elim (λ k. absurd (n (eqb-true (l .first) a k))) (λ k. eqb-true (l .second) a k)
+          (or-cases (eqb (l .first) a) (eqb (l .second) a) h),
+    )))
+
+pub ends-touch : (a c : ℕ) (l : Link) → Ends a c l → c ≢ a → (touches a l ≡ true) × (other-end a l ≡ c)
+unfolding touches other-end
+ends-touch a c l (inl e) n = (or-left (eqb (l .first) a) (eqb (l .second) a) (eq-eqb (l .first) a (e .0)), rw (eq-eqb (l .first) a (e .0)) (e .1))
+ends-touch a c l (inr e) n = (or-right (eqb (l .first) a) (eqb (l .second) a) (eq-eqb (l .second) a (e .1)), rw (ne-eqb (l .first) a (λ f. n (sym (e .0) ∙ f))) (e .0))
+
+pub other-end-below : (n a : ℕ) (l : Link) → l .first < n → l .second < n → other-end a l < n
+unfolding other-end
+other-end-below n a l h k = by-bool (eqb (l .first) a) (λ (t : eqb (l .first) a ≡ true). rw t k) (λ (t : eqb (l .first) a ≡ false). rw t h)
 
 module _ (w : Wiring) where
   pub linked-link : (a b : ℕ) → linked w a b ≡ true → (l : Link) × In l (w .links) × Ends a b l

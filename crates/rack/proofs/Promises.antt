@@ -14,7 +14,7 @@ use Rattle.rack.specs.Refusals.{refusal, link-fault, links-refusal, well
 use Rattle.rack.specs.WiringFile.{file-wiring, sizes-fault, form-refusal, file-refusal}
 use Rattle.rack.specs.Embeddings.{times}
 use Rattle.rack.specs.Promises.{Hops-fewest, Connected-paths, No-ties, Card-zero-zeros, Addresses-embed, No-addresses}
-use Rattle.rack.specs.Promises.{Embedding-unique, Columns-once, Few-columns, Sizes-in-range, Links-join, Odd-loop, File-as-wiring}
+use Rattle.rack.specs.Promises.{Embedding-unique, Choices-as-rows, Columns-once, Few-columns, Sizes-in-range, Links-join, Odd-loop, File-as-wiring}
 use Rattle.rack.proofs.Logic.{not-true-false, and-both}
 use Rattle.rack.proofs.Lists.{count-at-most-one}
 use Rattle.rack.proofs.Paths.{path-cards, cards-path}
@@ -24,6 +24,7 @@ use Rattle.rack.proofs.Uniqueness.{reduced-count, reduced-length}
 use Rattle.rack.proofs.Refusals.{or-else-clear, or-else-second, lowest-fault-none, lowest-fault-clear}
 use Rattle.rack.proofs.Refusals.{link-fault-clear, link-fault-few, clear-link-fault, well-formed-rack}
 use Rattle.rack.proofs.Acceptance.{accepted-embedding, embedding-accepted, connected-number, ten-level, level-ten}
+use Rattle.rack.proofs.Choices
 use Rattle.rack.proofs.FewColumns
 use Rattle.rack.proofs.Parity.{no-tie}
 use Rattle.rack.proofs.WiringFile.{wiring-at-cards, sizes-clear, sized-clear, file-wiring-bytes}
@@ -110,3 +111,6 @@ file-as-wiring bs h =
       or-else-second (form-refusal bs) (rack-refusal (file-wiring bs)) h,
       λ b. file-wiring-bytes bs b z,
     )
+
+pub choices-as-rows : Choices-as-rows
+choices-as-rows = Choices.choices-as-rows

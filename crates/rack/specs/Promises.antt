@@ -13,7 +13,7 @@ use Rattle.rack.specs.Columns.{columns, column-count, address, Embedding
 use Rattle.rack.specs.Refusals.{most-parallel, links-refusal, well-formed, parity-refusal, rack-refusal}
 use Rattle.rack.specs.Buffers.{number-at}
 use Rattle.rack.specs.WiringFile.{file-wiring, sizes-fault, form-refusal, file-refusal, file-bytes}
-use Rattle.rack.specs.Embeddings.{reduced-columns, times}
+use Rattle.rack.specs.Embeddings.{reduced-columns, times, Choice, list-bits, row-list}
 
 -- "Hops between two cards are the fewest links on a way from one to the other": no path has fewer, one has as many,
 -- and the number of cards says that there is none
@@ -59,6 +59,15 @@ Embedding-unique =
     (w : Wiring) (k : ℕ) (r : ℕ → ℕ → Bool) → well-formed w ≡ true → connected w ≡ true → Embedding w k r →
     (length (reduced-columns (w .cards) k r) ≡ column-count w)
     × ((c : List Bool) → times c (reduced-columns (w .cards) k r) ≡ times c (columns w))
+
+-- "Gives each card a row of bits, all rows equally long, of whatever length, 0 too": lists of such rows and embeddings are the same
+-- choices, bit by bit
+unfoldable pub Choices-as-rows : Type 0
+Choices-as-rows =
+    (w : Wiring) (k : ℕ) →
+    ((rs : List (List Bool)) → Choice w k rs → Embedding w k (list-bits rs) × (row-list (w .cards) k (list-bits rs) ≡ rs))
+    × ((r : ℕ → ℕ → Bool) → Embedding w k r →
+    Choice w k (row-list (w .cards) k r) × ((c j : ℕ) → c < w .cards → j < k → list-bits (row-list (w .cards) k r) c j ≡ r c j))
 
 -- ".. the planner's k columns in some order, each once"
 unfoldable pub Columns-once : Type 0
