@@ -69,6 +69,7 @@ pub record Walk-says (ps : List ℕ) (a b : ℕ) (t : Traffic) (r : Walked) (old
 -- a frame: its plan was read, both numbers are cards, and the lent buffer has its length
 pub record Frame (ps : List ℕ) (a b : ℕ) (old : List ℕ) : Type 0 where
   pub read : plan-refusal ps ≡ 0
+  -- both are cards of the plan
   pub from : a < plan-cards ps
   pub goal : b < plan-cards ps
   pub room : length old ≡ lent-met

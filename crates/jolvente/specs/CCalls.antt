@@ -1,20 +1,22 @@
 -- What the C calls return and leave in their lent bytes. Assumes nothing: these are definitions.
 use mathlib.Core.Path.{_≡_}
-use mathlib.Core.Bool.{_&&_, cond}
+use mathlib.Core.Bool.{true, _&&_, cond}
 use mathlib.Core.List.{List, _++_}
-use Prim.Native.Nat.{ℕ, _+_, _*_, _-_, _<_}
+use Prim.Native.Nat.{ℕ, _+_, _*_, _-_, _%_, _<_}
 use lib.Dec.{eqb}
 use lib.ListN.{length, replicate}
 use Rattle.rack.specs.Refusals.{Refusal, refusal}
-use Rattle.rack.specs.WiringFile.{file-wiring}
+use Rattle.rack.specs.Limits.{lent-plan}
+use Rattle.rack.specs.Hops.{connected}
+use Rattle.rack.specs.WiringFile.{file-wiring, form-refusal}
 use Rattle.planner.specs.PlanBytes.{plan-bytes}
-use Rattle.planner.specs.Planning.{left-in, writing-refusal}
-use Rattle.rack.specs.PlanFile.{plan-cards, plan-links, plan-columns}
+use Rattle.planner.specs.Planning.{left-in, writing-refusal, Found}
+use Rattle.rack.specs.PlanFile.{plan-cards, plan-links, plan-columns, plan-bit}
 use Rattle.reader.specs.Plan.{plan-refusal}
 use Rattle.forwarder.specs.Forwarding.{Walk, walk}
-use Rattle.forwarder.specs.Calls.{walk-hops, walk-refusal}
+use Rattle.forwarder.specs.Calls.{lent-met, walk-hops, walk-refusal}
 use Rattle.forwarder.specs.declared.walk.Traffic.{Traffic}
-use Rattle.jolvente.specs.Records.{lent-record, lent-met, record-bytes, card-bytes, counts-in}
+use Rattle.jolvente.specs.Records.{lent-record, lent-met-bytes, record-bytes, card-bytes, counts-in}
 
 -- the number, plus 256 times the link or card that it carries
 unfoldable pub returned : Refusal → ℕ
@@ -30,6 +32,18 @@ pub record C-write-says (bs : List ℕ) (r : ℕ) (plan plan-now rec rec-now : L
   pub record-left : rec-now
       ≡ left-in (c-write-refusal bs (length plan) (length rec) .number) (record-bytes (length (plan-bytes (file-wiring bs))) 0 0 0) rec
 
+-- DEMANDS 2 AND 3 of the writer are said of the number that it returns and of the bits in the plan that it leaves. Where they are:
+-- a well-formed, connected wiring, and lent bytes of their lengths
+pub record C-asked (bs plan rec : List ℕ) : Type 0 where
+  pub room : length plan ≡ lent-plan
+  pub record-room : length rec ≡ lent-record
+  -- none of 2 to 8 applies
+  pub formed : form-refusal bs .number ≡ 0
+  pub whole : connected (file-wiring bs) ≡ true
+
+abbrev pub C-found : (bs : List ℕ) → (r : ℕ) → (plan : List ℕ) → Type 0
+C-found bs r plan = Found (file-wiring bs) (r % 256) (plan-columns plan) (plan-bit plan)
+
 -- THE READER: 1, 12, 13. A record of the plan's sizes; with a refusal all is as it was
 unfoldable pub c-read-refusal : List ℕ → (record-room : ℕ) → ℕ
 c-read-refusal ps k = cond (eqb k lent-record) (plan-refusal ps) 1
@@ -42,10 +56,10 @@ pub record C-read-says (ps : List ℕ) (r : ℕ) (rec rec-now : List ℕ) : Type
 -- raised where it arrived; with a refusal all is as it was
 unfoldable pub c-walk-refusal : List ℕ → (a b room : ℕ) → (rec : List ℕ) → ℕ
 c-walk-refusal ps a b n rec =
-    cond (eqb n lent-met && eqb (length rec) lent-record) (walk-refusal ps a b (counts-in rec) 256) 1
+    cond (eqb n lent-met-bytes && eqb (length rec) lent-record) (walk-refusal ps a b (counts-in rec) lent-met) 1
 
 unfoldable pub met-bytes : Walk → List ℕ
-met-bytes v = card-bytes (v .met ++ replicate (256 - length (v .met)) 0)
+met-bytes v = card-bytes (v .met ++ replicate (lent-met - length (v .met)) 0)
 
 unfoldable pub walk-record : Walk → Traffic → List ℕ
 walk-record v t =
@@ -60,9 +74,10 @@ pub record C-walk-says (ps : List ℕ) (a b r : ℕ) (met met-now rec rec-now : 
 -- bytes have their lengths
 pub record C-frame (ps : List ℕ) (a b : ℕ) (met rec : List ℕ) : Type 0 where
   pub read : plan-refusal ps ≡ 0
+  -- both are cards of the plan
   pub from : a < plan-cards ps
-  pub to : b < plan-cards ps
-  pub room : length met ≡ lent-met
+  pub goal : b < plan-cards ps
+  pub room : length met ≡ lent-met-bytes
   pub record-room : length rec ≡ lent-record
 
 -- a count can't take it: 15, and all is as it was

@@ -1,14 +1,20 @@
 // The calls for C, by numbers and byte slices: write a plan, read a plan, walk a frame.
+ghost use mathlib.Core.Path.{_≡_};
 ghost use Rattle.rack.specs.Hops.{hops};
 ghost use Rattle.rack.specs.PlanFile.{plan-wiring};
+ghost use Rattle.reader.specs.Promises.{Measured};
 ghost use Rattle.forwarder.specs.Calls.{Arrived, Can-take};
-ghost use Rattle.jolvente.specs.CCalls.{C-frame, C-full, C-read-says, C-walk-says, C-write-says};
+ghost use Rattle.jolvente.specs.CCalls.{C-asked, C-found, C-frame, C-full, C-read-says, C-walk-says, C-write-says};
 ghost use Rattle.jolvente.specs.Records.{cards-in, counts-in, walked-in};
+use forwarder::walk::LENT_MET;
 use forwarder::walk::Traffic;
 use forwarder::walk::walk_frame;
 use planner::write_plan;
 use rack::bytes::number32_at;
+use rack::limits::LENT_PLAN;
 use reader::read::read_plan;
+use records::LENT_MET_BYTES;
+use records::LENT_RECORD;
 use records::put_cards;
 use records::put_record;
 
@@ -17,12 +23,13 @@ mod records;
 // Writes the plan of a wiring file: 1 to 11. The record has the plan's length.
 #[no_mangle]
 pub extern "C" fn jolvente_write_plan(wiring: &[u8], plan: &mut [u8], record: &mut [u8]) -> u32
-    ensures { λ r. ⌜ C-write-says (now (wiring .entry)) r (now (plan .entry)) (now (plan .exit)) (now («record» .entry)) (now («record» .exit)) ⌝ }
+    ensures says { λ r. ⌜ C-write-says (now (wiring .entry)) r (now (plan .entry)) (now (plan .exit)) (now («record» .entry)) (now («record» .exit)) ⌝ }
+    ensures found { λ r. ⌜ (C-asked (now (wiring .entry)) (now (plan .entry)) (now («record» .entry)) → C-found (now (wiring .entry)) r (now (plan .exit))) ⌝ }
 {
-    if plan.len() != 16390 {
+    if plan.len() != LENT_PLAN {
         return 1;
     }
-    if record.len() != 16 {
+    if record.len() != LENT_RECORD {
         return 1;
     }
     let answer = write_plan(wiring, plan);
@@ -33,9 +40,10 @@ pub extern "C" fn jolvente_write_plan(wiring: &[u8], plan: &mut [u8], record: &m
 // Reads a plan: 1, 12, 13. The record has the plan's sizes.
 #[no_mangle]
 pub extern "C" fn jolvente_read_plan(plan: &[u8], record: &mut [u8]) -> u32
-    ensures { λ r. ⌜ C-read-says (now (plan .entry)) r (now («record» .entry)) (now («record» .exit)) ⌝ }
+    ensures says { λ r. ⌜ C-read-says (now (plan .entry)) r (now («record» .entry)) (now («record» .exit)) ⌝ }
+    ensures promise { λ r. ⌜ (r ≡ 0 → Measured (now (plan .entry))) ⌝ }
 {
-    if record.len() != 16 {
+    if record.len() != LENT_RECORD {
         return 1;
     }
     let sizes = read_plan(plan);
@@ -51,26 +59,26 @@ pub extern "C" fn jolvente_read_plan(plan: &[u8], record: &mut [u8]) -> u32
 pub extern "C" fn jolvente_walk(
     plan: &[u8],
     from: u32,
-    to: u32,
+    goal: u32,
     met: &mut [u8],
     record: &mut [u8],
 ) -> u32
-    ensures says { λ r. ⌜ C-walk-says (now (plan .entry)) from to r (now (met .entry)) (now (met .exit)) (now («record» .entry)) (now («record» .exit)) ⌝ }
-    ensures arrives { λ r. ⌜ (C-frame (now (plan .entry)) from to (now (met .entry)) (now («record» .entry)) → Can-take (counts-in (now («record» .entry))) (hops (plan-wiring (now (plan .entry))) from to) → Arrived (now (plan .entry)) from to (counts-in (now («record» .entry))) (walked-in r (now («record» .exit))) (cards-in (now (met .exit)))) ⌝ }
-    ensures full { λ r. ⌜ (C-frame (now (plan .entry)) from to (now (met .entry)) (now («record» .entry)) → (Can-take (counts-in (now («record» .entry))) (hops (plan-wiring (now (plan .entry))) from to) → ⊥) → C-full r (now (met .entry)) (now (met .exit)) (now («record» .entry)) (now («record» .exit))) ⌝ }
+    ensures says { λ r. ⌜ C-walk-says (now (plan .entry)) from goal r (now (met .entry)) (now (met .exit)) (now («record» .entry)) (now («record» .exit)) ⌝ }
+    ensures arrives { λ r. ⌜ (C-frame (now (plan .entry)) from goal (now (met .entry)) (now («record» .entry)) → Can-take (counts-in (now («record» .entry))) (hops (plan-wiring (now (plan .entry))) from goal) → Arrived (now (plan .entry)) from goal (counts-in (now («record» .entry))) (walked-in r (now («record» .exit))) (cards-in (now (met .exit)))) ⌝ }
+    ensures full { λ r. ⌜ (C-frame (now (plan .entry)) from goal (now (met .entry)) (now («record» .entry)) → (Can-take (counts-in (now («record» .entry))) (hops (plan-wiring (now (plan .entry))) from goal) → ⊥) → C-full r (now (met .entry)) (now (met .exit)) (now («record» .entry)) (now («record» .exit))) ⌝ }
 {
-    if met.len() != 512 {
+    if met.len() != LENT_MET_BYTES {
         return 1;
     }
-    if record.len() != 16 {
+    if record.len() != LENT_RECORD {
         return 1;
     }
     let traffic = Traffic {
         frames: number32_at(record, 8),
         hops: number32_at(record, 12),
     };
-    let mut cards = [0u16; 256];
-    let w = walk_frame(plan, from, to, traffic, &mut cards);
+    let mut cards = [0u16; LENT_MET];
+    let w = walk_frame(plan, from, goal, traffic, &mut cards);
     if w.number != 0 {
         return w.number;
     }

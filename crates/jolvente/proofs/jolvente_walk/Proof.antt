@@ -1,6 +1,7 @@
--- 1 comes first, and a refused frame leaves all as it was; else the cards met and the record are written. Assumes nothing.
+-- 1 comes first, and a refused frame leaves all as it was; else the cards met and the record are written. Demand 3 follows. Assumes nothing.
 use mathlib.Core.Path.{refl}
 use native.Mathlib.Omega.{arith}
+use Rattle.jolvente.proofs.WalkArrival.{with-arrival}
 use Rattle.jolvente.proofs.WalkAnswer.{no-met-room, no-record-room, walk-refused, walk-said}
 use borrow.Author.Needs.{needs}
 use Rattle.jolvente.proofs.jolvente_walk.Statement.{statement}
@@ -9,12 +10,14 @@ use Rattle.jolvente.proofs.jolvente_walk.Tie as tie
 returns : tie.Need-returns
 returns c =
     let z = c .before .before .before .before .args in
-    no-met-room (z .plan .now) (z .from) (z .to) (z .met .now) (z .«record» .now) (λ e. omega arith)
+    with-arrival _ _ _ _ _ _ _ _
+    (no-met-room (z .plan .now) (z .from) (z .goal) (z .met .now) (z .«record» .now) (λ e. omega arith))
 
 returns-2 : tie.Need-returns-2
 returns-2 c =
     let z = c .before .before .before .before .before .args in
-    no-record-room (z .plan .now) (z .from) (z .to) (z .met .now) (z .«record» .now) (λ e. omega arith)
+    with-arrival _ _ _ _ _ _ _ _
+    (no-record-room (z .plan .now) (z .from) (z .goal) (z .met .now) (z .«record» .now) (λ e. omega arith))
 
 number32-at-requires : tie.Need-number32-at-requires
 number32-at-requires c κs = search needs
@@ -39,8 +42,9 @@ returns-3 c =
     let at-if1 = at-if2 .before in
     let z = at-if1 .before .before .before .before .args in
     let w = at-walk-frame .walk-frame in
-    walk-refused (z .plan .now) (z .from) (z .to) (z .met .now) (z .«record» .now) (omega (arith, at-if1 .if1 .left)) (omega (arith, at-if2 .if2 .left))
-    _ (at-number32-at .number32-at .ensures) (at-walk-frame .before .before .number32-at2 .ensures) (w .result) _ _ refl (w .ensures .0) (w .ensures .1 .0) (w .ensures .1 .1) (λ e. omega arith)
+    with-arrival _ _ _ _ _ _ _ _
+    (walk-refused (z .plan .now) (z .from) (z .goal) (z .met .now) (z .«record» .now) (omega (arith, at-if1 .if1 .left)) (omega (arith, at-if2 .if2 .left))
+    _ (at-number32-at .number32-at .ensures) (at-walk-frame .before .before .number32-at2 .ensures) (w .result) _ _ refl (w .ensures .0) (λ e. omega arith))
 
 slice-aggregate-put-cards : tie.Need-slice-aggregate-put-cards
 slice-aggregate-put-cards c = search needs
@@ -68,10 +72,10 @@ returns-4 c =
     let at-if1 = at-if2 .before in
     let z = at-if1 .before .before .before .before .args in
     let w = at-walk-frame .walk-frame in
-    walk-said (z .plan .now) (z .from) (z .to) (z .met .now) (z .«record» .now) (omega (arith, at-if1 .if1 .left)) (omega (arith, at-if2 .if2 .left))
-    _ (at-number32-at .number32-at .ensures) (at-walk-frame .before .before .number32-at2 .ensures) (w .result) _ _ refl (w .ensures .0) (w .ensures .1 .0) (w .ensures .1 .1)
-    (omega (arith, at-if3 .if3 .left)) _ _ (at-put-cards .put-cards .ensures .0) (at-put-cards .put-cards .ensures .1)
-    (at-put-record .put-record .ensures .0) (at-put-record .put-record .ensures .1)
+    with-arrival _ _ _ _ _ _ _ _
+    (walk-said (z .plan .now) (z .from) (z .goal) (z .met .now) (z .«record» .now) (omega (arith, at-if1 .if1 .left)) (omega (arith, at-if2 .if2 .left))
+    _ (at-number32-at .number32-at .ensures) (at-walk-frame .before .before .number32-at2 .ensures) (w .result) _ _ refl (w .ensures .0)
+    (omega (arith, at-if3 .if3 .left)) _ _ (at-put-cards .put-cards .ensures) (at-put-record .put-record .ensures))
 
 pub jolvente-walk-spec : {M : Type 1} → statement M
 jolvente-walk-spec =

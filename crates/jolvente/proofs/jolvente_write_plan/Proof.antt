@@ -1,16 +1,17 @@
--- 1 comes before anything is written; else the plan and the record are written, or made zero. Assumes nothing.
+-- 1 comes before anything is written; else the plan and the record are written, or made zero. Demands 2 and 3 follow. Assumes nothing.
 use native.Mathlib.Omega.{arith}
 use borrow.Author.Needs.{needs}
 use Rattle.jolvente.proofs.Answers.{no-plan-room, no-record-room, plan-said}
+use Rattle.jolvente.proofs.PlanPromise.{with-found}
 use Rattle.jolvente.proofs.Returned.{returned-fits}
 use Rattle.jolvente.proofs.jolvente_write_plan.Statement.{statement}
 use Rattle.jolvente.proofs.jolvente_write_plan.Tie as tie
 
 returns : tie.Need-returns
-returns c = no-plan-room _ _ _ (λ e. omega arith)
+returns c = with-found _ _ _ _ _ _ (no-plan-room _ _ _ (λ e. omega arith))
 
 returns-2 : tie.Need-returns-2
-returns-2 c = no-record-room _ _ _ (λ e. omega arith)
+returns-2 c = with-found _ _ _ _ _ _ (no-record-room _ _ _ (λ e. omega arith))
 
 write-plan-requires : tie.Need-write-plan-requires
 write-plan-requires c κs = search needs
@@ -33,8 +34,9 @@ same-length-2 c = search needs
 returns-3 : tie.Need-returns-3
 returns-3 c =
     let at-write-plan = c .before .before .before .before .before .before .before .before in
-    plan-said _ _ _ _ _ (at-write-plan .write-plan .result) (omega arith) (omega arith) (at-write-plan .write-plan .ensures .0)
-    (c .before .before .before .before .put-record .ensures .0)
+    with-found _ _ _ _ _ _
+    (plan-said _ _ _ _ _ (at-write-plan .write-plan .result) (omega arith) (omega arith) (at-write-plan .write-plan .ensures .0)
+    (c .before .before .before .before .put-record .ensures))
 
 pub jolvente-write-plan-spec : {M : Type 1} → statement M
 jolvente-write-plan-spec =

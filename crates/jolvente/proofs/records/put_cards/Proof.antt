@@ -1,23 +1,19 @@
--- The first i cards are appended, and fit 16 bits. Assumes nothing.
-use mathlib.Core.Path.{_≡_, sym, subst}
-use mathlib.Core.List.{List}
-use Prim.Native.Nat.{ℕ, _+_, _*_, _-_, _≤_, _<_}
+-- The first i cards are appended. Assumes nothing.
+use mathlib.Core.Path.{_≡_, subst}
+use Prim.Native.Nat.{ℕ, _+_, _*_, _-_, _≤_}
 use native.Mathlib.Omega.{arith}
 use lib.ListN.{length, getD}
-use borrow.Author.Count.{below-more}
 use Rattle.rack.specs.Lists.{blocks}
 use Rattle.rack.specs.Buffers.{two-bytes, Appends}
 use Rattle.rack.proofs.WiringFile.{length-two-bytes}
 use Rattle.rack.proofs.Appending.{Appended, appended-none, appended-block}
-use Rattle.jolvente.specs.Records.{cards-in}
-use Rattle.jolvente.proofs.RecordBytes.{cards-read, cards-appended}
+use Rattle.jolvente.proofs.RecordBytes.{cards-appended}
 use borrow.Author.Needs.{needs}
 use Rattle.jolvente.proofs.records.put_cards.Statement.{statement}
 use Rattle.jolvente.proofs.records.put_cards.Tie as tie
 
 abbrev Inv-loop : tie.InvT-loop
-Inv-loop cards bytes₀ i₀ bytes i =
-    (i ≤ 256) × Appended 0 bytes₀ bytes (blocks i (λ j. two-bytes (getD cards j 0))) × ((j : ℕ) → j < i → getD cards j 0 < 65536)
+Inv-loop cards bytes₀ i₀ bytes i = (i ≤ 256) × Appended 0 bytes₀ bytes (blocks i (λ j. two-bytes (getD cards j 0)))
 
 abbrev μ-loop : tie.MeasureT-loop
 μ-loop cards bytes₀ i₀ bytes i = 256 - i
@@ -26,7 +22,7 @@ clear-bytes-requires : tie.Need-clear-bytes-requires Inv-loop μ-loop
 clear-bytes-requires c κs = search needs
 
 loop-holds : tie.Need-loop-holds Inv-loop μ-loop
-loop-holds c = (omega arith, appended-none 0 _, λ j h. absurd (omega arith))
+loop-holds c = (omega arith, appended-none 0 _)
 
 mul-put-number : tie.Need-mul-put-number Inv-loop μ-loop
 mul-put-number c = omega arith
@@ -60,7 +56,6 @@ loop-again c =
           (c .before .before .put-number .kept .0) (l .inv .1)
           (subst (λ (p : ℕ). Appends p (l .bytes) (c .before .before .put-number .last .0) (two-bytes (getD cards (l .i) 0))) e
           (c .before .before .put-number .ensures)),
-      below-more (λ j. getD cards j 0 < 65536) (l .i) (l .inv .2) (omega (arith, c .before .before .before .shared-slice-known2 .given (l .i))),
     )
 
 same-length : tie.Need-same-length Inv-loop μ-loop
@@ -75,11 +70,8 @@ returns c =
     let e : l .i ≡ 256 = omega arith in
     let zeros = at-clear .clear-bytes .last .0 in
     let all = subst (λ (k : ℕ). Appends 0 zeros (l .bytes) (blocks k (λ j. two-bytes (getD cards j 0)))) e (l .inv .1 .adds) in
-    let is =
     cards-appended (length (at-args .args .bytes .now)) cards zeros (l .bytes) (at-clear .clear-bytes .ensures)
     (omega (arith, l .inv .1 .long)) (at-args .pre .0) all
-    in
-    (is, subst (λ (x : List ℕ). cards-in x ≡ cards) (sym is) (cards-read cards (at-args .pre .0) (λ j h. l .inv .2 j (omega arith))))
 
 pub put-cards-spec : {M : Type 1} → statement M
 put-cards-spec =

@@ -1,11 +1,7 @@
 -- Four numbers are appended to zeros, and fill them. Assumes nothing.
-use mathlib.Core.Path.{sym, subst, _∙_}
-use mathlib.Core.List.{List}
-use Prim.Native.Nat.{ℕ}
-use native.Mathlib.Omega.{arith}
+use mathlib.Core.Path.{_∙_}
 use lib.ListN.{length}
-use Rattle.jolvente.specs.Records.{Reads}
-use Rattle.jolvente.proofs.RecordBytes.{record-appended, record-reads}
+use Rattle.jolvente.proofs.RecordBytes.{record-appended}
 use borrow.Author.Needs.{needs}
 use Rattle.jolvente.proofs.records.put_record.Statement.{statement}
 use Rattle.jolvente.proofs.records.put_record.Tie as tie
@@ -36,11 +32,8 @@ returns c =
     let at-first = at-second .before .before .before .before in
     let at-clear = at-first .before .before .before .before in
     let z = at-clear .before .before .before .args in
-    let is =
     record-appended (z .x) (z .y) (z .z) (z .u) (length (z .«record» .now)) _ _ _ _ _ (at-clear .clear-bytes .ensures) (same-length c ∙ at-clear .before .before .before .pre)
     (at-first .put-number32 .ensures) (at-second .put-number322 .ensures) (at-third .put-number323 .ensures) (at-fourth .put-number324 .ensures)
-    in
-    (is, subst (λ (x : List ℕ). Reads x (z .x) (z .y) (z .z) (z .u)) (sym is) (record-reads (z .x) (z .y) (z .z) (z .u) (omega arith) (omega arith) (omega arith) (omega arith)))
 
 pub put-record-spec : {M : Type 1} → statement M
 put-record-spec =
