@@ -60,7 +60,7 @@ uint32_t jolvente_write_plan(const uint8_t *wiring, size_t wiring_len, uint8_t *
  * record_len must be 16. Writes the record (cards, links, columns, 0). Refuses with 1, 12 and 13. */
 uint32_t jolvente_read_plan(const uint8_t *plan, size_t plan_len, uint8_t *record, size_t record_len);
 
-/* Walks a frame from one card to another.
+/* Walks a frame from a card to its goal.
  *
  * met_len must be 512 and record_len 16. Bytes 8 to 15 of the record hold two counts on entry: frames that arrived, and
  * their hops. Writes into met the cards met as numbers of 16 bits, the first card first, zeros behind the last, and the
@@ -69,7 +69,7 @@ uint32_t jolvente_read_plan(const uint8_t *plan, size_t plan_len, uint8_t *recor
  *
  * The plan's layout alone is tested, so a frame can be stuck on a plan that jolvente_read_plan refuses. On a plan that it
  * reads every frame arrives, by the fewest links. */
-uint32_t jolvente_walk(const uint8_t *plan, size_t plan_len, uint32_t from, uint32_t to, uint8_t *met, size_t met_len, uint8_t *record, size_t record_len);
+uint32_t jolvente_walk(const uint8_t *plan, size_t plan_len, uint32_t from, uint32_t goal, uint8_t *met, size_t met_len, uint8_t *record, size_t record_len);
 
 #ifdef __cplusplus
 }

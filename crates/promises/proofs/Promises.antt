@@ -1,17 +1,22 @@
 -- All promises, each proved: what a reader looks for first. Assumes nothing.
 use Rattle.rack.specs.Promises.{Hops-fewest, Connected-paths, No-ties, Card-zero-zeros, Addresses-embed, No-addresses}
-use Rattle.rack.specs.Promises.{Embedding-unique, Columns-once, Few-columns, Sizes-in-range, Links-join, Odd-loop, File-as-wiring}
+use Rattle.rack.specs.Promises.{Embedding-unique, Choices-as-rows, Columns-once, Few-columns, Sizes-in-range, Links-join, Odd-loop, File-as-wiring}
 use Rattle.rack.proofs.Promises as rack
-use Rattle.reader.specs.Promises.{Read-exactly, Calls-agree, Layout-in-range, Address-fits, Reader-promise}
+use Rattle.planner.specs.Promises.{Planning-finds, Writing-finds}
+use Rattle.planner.proofs.Promises as planner
+use Rattle.reader.specs.Promises.{Read-exactly, Calls-agree, Layout-in-range, Address-fits, Reader-promise, Refused-address-empty, No-such-card}
 use Rattle.reader.proofs.Promises as reader
-use Rattle.forwarder.specs.Promises.{Step-first, Step-local, Step-call-local, Walk-ends, Frame-arrives}
+use Rattle.forwarder.specs.Promises.{Step-first, Step-local, Step-call-local, Walk-ends, Frame-arrives, Walk-arrives, Walk-full, Stuck-uncounted}
 use Rattle.forwarder.proofs.Promises as forwarder
-use Rattle.opened.specs.Promises.{Carries-exactly, Opening-whole, Refused-opening, Other-sizes, Opened-frame-arrives}
+use Rattle.opened.specs.Promises.{Carries-exactly, Opening-whole, Refused-opening-empty, Refused-opening, Other-sizes, Opened-frame-arrives}
+use Rattle.opened.specs.Promises.{Opened-address-own, Opened-address-refused}
 use Rattle.opened.proofs.Promises as opened
 use Rattle.text.specs.Promises.{Decimal-value, Decimal-first, Decimal-digits}
 use Rattle.text.proofs.Promises as text
 use Rattle.listing_text.specs.Promises.{Listing-fits}
 use Rattle.listing_text.proofs.Promises as listing
+use Rattle.jolvente.specs.Promises.{C-writing-finds, C-reading-measures, C-walk-arrives, C-walk-full}
+use Rattle.jolvente.proofs.Promises as c-calls
 
 -- hops are the fewest links
 pub hops-fewest : Hops-fewest
@@ -41,6 +46,10 @@ no-addresses = rack.no-addresses
 pub embedding-unique : Embedding-unique
 embedding-unique = rack.embedding-unique
 
+-- lists of rows and embeddings are the same choices
+pub choices-as-rows : Choices-as-rows
+choices-as-rows = rack.choices-as-rows
+
 -- each column occurs once
 pub columns-once : Columns-once
 columns-once = rack.columns-once
@@ -65,6 +74,13 @@ odd-loop = rack.odd-loop
 pub file-as-wiring : File-as-wiring
 file-as-wiring = rack.file-as-wiring
 
+-- planning and plan writing find the addresses, or there are none
+pub planning-finds : Planning-finds
+planning-finds = planner.planning-finds
+
+pub writing-finds : Writing-finds
+writing-finds = planner.writing-finds
+
 -- a plan is read exactly if the planner writes it
 pub read-exactly : Read-exactly
 read-exactly = reader.read-exactly
@@ -84,6 +100,13 @@ address-fits = reader.address-fits
 -- what the forwarder may lean on
 pub reader-promise : Reader-promise
 reader-promise = reader.reader-promise
+
+-- a refused address is empty, and 14 is said of a plan that was read
+pub refused-address-empty : Refused-address-empty
+refused-address-empty = reader.refused-address-empty
+
+pub no-such-card : No-such-card
+no-such-card = reader.no-such-card
 
 -- a step takes the first link that leads nearer
 pub step-first : Step-first
@@ -105,6 +128,17 @@ walk-ends = forwarder.walk-ends
 pub frame-arrives : Frame-arrives
 frame-arrives = forwarder.frame-arrives
 
+-- the same of what the call answers and leaves, and 15 where a count can't take it
+pub walk-arrives : Walk-arrives
+walk-arrives = forwarder.walk-arrives
+
+pub walk-full : Walk-full
+walk-full = forwarder.walk-full
+
+-- a stuck walk is not counted, and never 15
+pub stuck-uncounted : Stuck-uncounted
+stuck-uncounted = forwarder.stuck-uncounted
+
 -- an opened plan's calls see its bytes exactly if they have a layout and the sizes carried are those in them
 pub carries-exactly : Carries-exactly
 carries-exactly = opened.carries-exactly
@@ -113,7 +147,10 @@ carries-exactly = opened.carries-exactly
 pub opening-whole : Opening-whole
 opening-whole = opened.opening-whole
 
--- a refused opening is 12 in every call
+-- a refused opening has no bytes and no sizes, and is 12 in every call
+pub refused-opening-empty : Refused-opening-empty
+refused-opening-empty = opened.refused-opening-empty
+
 pub refused-opening : Refused-opening
 refused-opening = opened.refused-opening
 
@@ -124,6 +161,26 @@ other-sizes = opened.other-sizes
 -- every frame on an opened plan that was read arrives by the fewest links
 pub opened-frame-arrives : Opened-frame-arrives
 opened-frame-arrives = opened.opened-frame-arrives
+
+-- an address is that part of the bytes that were opened, or empty
+pub opened-address-own : Opened-address-own
+opened-address-own = opened.opened-address-own
+
+pub opened-address-refused : Opened-address-refused
+opened-address-refused = opened.opened-address-refused
+
+-- the C calls: the writer finds the addresses or there are none, what the reader reads is measured, every frame arrives or is 15
+pub c-writing-finds : C-writing-finds
+c-writing-finds = c-calls.c-writing-finds
+
+pub c-reading-measures : C-reading-measures
+c-reading-measures = c-calls.c-reading-measures
+
+pub c-walk-arrives : C-walk-arrives
+c-walk-arrives = c-calls.c-walk-arrives
+
+pub c-walk-full : C-walk-full
+c-walk-full = c-calls.c-walk-full
 
 -- every listing fits its lent buffer
 pub listing-fits : Listing-fits
