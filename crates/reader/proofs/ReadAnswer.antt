@@ -20,10 +20,11 @@ use Rattle.planner.specs.declared.Answer.{Answer}
 use Rattle.rack.specs.PlanFile.{plan-wiring}
 use Rattle.reader.specs.Plan.{layout-holds, content-holds, plan-refusal}
 use Rattle.reader.specs.Promises.{Measured}
-use Rattle.reader.specs.Reading.{Sizes-say, layout-refusal, Layout-says, Read-says}
+use Rattle.reader.specs.Reading.{Sizes-say, no-sizes, layout-refusal, Layout-says, Read-says}
 use Rattle.reader.specs.declared.layout.Sizes.{Sizes}
 use Rattle.reader.proofs.Plan.{layout-facts}
 use Rattle.reader.proofs.Promises.{read-measured}
+use Rattle.reader.proofs.Reading.{no-sizes-say}
 use Rattle.reader.proofs.InnerFile.{inner-file, inner-wiring, inner-refusal}
 
 module _ (ps : List ℕ) (r : Sizes) (s : Layout-says ps r) where
@@ -44,9 +45,9 @@ module _ (ps : List ℕ) (r : Sizes) (s : Layout-says ps r) where
   read-says-sizes e h = let z : Sizes-say ps 0 r = rw (layout-passed e) at s in rw (layout-passed e, h) z
 
 -- 13
-pub read-says-content : (ps : List ℕ) (r : Sizes) → layout-holds ps ≡ true → content-holds ps ≡ false → Sizes-say ps 13 r → Read-says ps r
+pub read-says-content : (ps : List ℕ) (r : Sizes) → layout-holds ps ≡ true → content-holds ps ≡ false → r ≡ no-sizes 13 → Read-says ps r
 unfolding plan-refusal
-read-says-content ps r l h z = rw (l, h) z
+read-says-content ps r l h e = rw (l, h) (no-sizes-say ps 13 r (λ z. omega arith) e)
 
 module _ (ps bs : List ℕ) (l : layout-holds ps ≡ true) (cut : bs ≡ inner-file ps) (a : Answer) (o out : List ℕ) (room : length o ≡ lent-plan) (says : Write-says bs a o out) where
   w : Write-says (inner-file ps) a o out

@@ -1,16 +1,17 @@
 -- What reading answers: 12 exactly where the layout's facts fail, and the sizes of a plan that passed. Assumes nothing.
-use mathlib.Core.Path.{_≡_, refl}
+use mathlib.Core.Path.{_≡_, refl, sym, subst}
 use mathlib.Core.Bool.{true, false}
 use mathlib.Core.Logic.{_≢_}
 use mathlib.Core.List.{List}
 use Prim.Native.Nat.{ℕ, _+_, _*_, _/_, _≤_}
 use native.Mathlib.Nat.{mul-le-mul}
 use native.Mathlib.Omega.{arith}
+use borrow.Author.Tests.{ne-eqb}
 use Rattle.rack.specs.Limits.{most-cards, most-columns}
 use Rattle.rack.proofs.Logic.{by-bool, not-true-false}
 use Rattle.rack.specs.PlanFile.{address-size}
 use Rattle.reader.specs.Plan.{layout-holds}
-use Rattle.reader.specs.Reading.{Laid-out, Sizes-say, layout-refusal, Layout-says}
+use Rattle.reader.specs.Reading.{Laid-out, Sizes-say, no-sizes, layout-refusal, Layout-says}
 use Rattle.reader.specs.declared.layout.Sizes.{Sizes}
 use Rattle.reader.proofs.Plan.{Layout, layout-facts, facts-layout, layout-read, read-layout}
 
@@ -23,9 +24,15 @@ pub few-address-bytes : (n k : ℕ) → n ≤ most-cards → k ≤ most-columns 
 few-address-bytes n k hn hk = mul-le-mul {m₂ = 32} hn (omega arith)
 
 module _ (ps : List ℕ) where
-  pub layout-refused : (r : Sizes) → (Layout ps → ⊥) → Sizes-say ps 12 r → Layout-says ps r
+  -- a refusal has no sizes
+  pub no-sizes-say : (refused : ℕ) (r : Sizes) → refused ≢ 0 → r ≡ no-sizes refused → Sizes-say ps refused r
+  no-sizes-say refused r n e =
+      let t = ne-eqb refused 0 n in
+      subst (Sizes-say ps refused) (sym e) (record { number = refl; cards = rw t refl; links = rw t refl; columns = rw t refl })
+
+  pub layout-refused : (r : Sizes) → (Layout ps → ⊥) → r ≡ no-sizes 12 → Layout-says ps r
   unfolding layout-refusal
-  layout-refused r h s = rw (not-true-false (layout-holds ps) (λ t. h (layout-facts ps t))) s
+  layout-refused r h e = rw (not-true-false (layout-holds ps) (λ t. h (layout-facts ps t))) (no-sizes-say 12 r (λ z. omega arith) e)
 
   pub layout-passed : (r : Sizes) → Laid-out ps (r .cards) (r .links) (r .columns) → r .number ≡ 0 → Layout-says ps r
   unfolding layout-refusal

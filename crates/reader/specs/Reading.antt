@@ -34,6 +34,10 @@ pub record Sizes-say (ps : List ℕ) (refused : ℕ) (r : Sizes) : Type 0 where
   pub links : r .links ≡ cond (eqb refused 0) (plan-links ps) 0
   pub columns : r .columns ≡ cond (eqb refused 0) (plan-columns ps) 0
 
+-- a refusal's number and zeros
+abbrev pub no-sizes : (refused : ℕ) → Sizes
+no-sizes refused = record { number = refused; cards = 0; links = 0; columns = 0 }
+
 -- 12 or 0; 12, 13 or 0
 unfoldable pub layout-refusal : List ℕ → ℕ
 layout-refusal ps = cond (layout-holds ps) 0 12

@@ -1,7 +1,6 @@
 // A plan's layout: refusal 12, and the three sizes.
-ghost use mathlib.Core.List.{List};
-ghost use Prim.Native.Nat.{ℕ};
-ghost use Rattle.reader.specs.Reading.{Layout-says, Sizes-say};
+ghost use mathlib.Core.Path.{_≡_};
+ghost use Rattle.reader.specs.Reading.{Layout-says, no-sizes};
 use rack::bytes::number_at;
 use rack::limits::MOST_CARDS;
 use rack::limits::MOST_COLUMNS;
@@ -15,12 +14,12 @@ pub struct Sizes {
     pub columns: u32,
 }
 
-// 12 and zeros.
-fn no_layout() -> Sizes
-    ensures { λ r. ⌜ ((ps : List ℕ) → Sizes-say ps 12 r) ⌝ }
+// A refusal's number and zeros.
+pub fn no_sizes(number: u32) -> Sizes
+    ensures { λ r. ⌜ r ≡ no-sizes number ⌝ }
 {
     Sizes {
-        number: 12,
+        number: number,
         cards: 0,
         links: 0,
         columns: 0,
@@ -32,25 +31,25 @@ pub fn plan_layout(plan: &[u8]) -> Sizes
     ensures { λ r. ⌜ Layout-says (now (plan .entry)) r ⌝ }
 {
     if plan.len() < 6 {
-        return no_layout();
+        return no_sizes(12);
     }
     let n = number_at(plan, 0);
     let m = number_at(plan, 2);
     let k = number_at(plan, 4);
     if n == 0 {
-        return no_layout();
+        return no_sizes(12);
     }
     if MOST_CARDS < n {
-        return no_layout();
+        return no_sizes(12);
     }
     if MOST_LINKS < m {
-        return no_layout();
+        return no_sizes(12);
     }
     if MOST_COLUMNS < k {
-        return no_layout();
+        return no_sizes(12);
     }
     if plan.len() != 6 + 4 * m + n * ((k + 7) / 8) {
-        return no_layout();
+        return no_sizes(12);
     }
     Sizes {
         number: 0,

@@ -12,6 +12,7 @@ ghost use Rattle.reader.specs.Plan.{content-holds, layout-holds};
 ghost use Rattle.reader.specs.Promises.{Measured};
 ghost use Rattle.reader.specs.Reading.{Read-says, Address-says, address-refusal};
 use crate::layout::Sizes;
+use crate::layout::no_sizes;
 use crate::layout::plan_layout;
 use planner::write_plan;
 
@@ -82,12 +83,7 @@ pub fn read_plan(plan: &[u8]) -> Sizes
     if content_holds(plan, sizes.links as usize) {
         return sizes;
     }
-    Sizes {
-        number: 13,
-        cards: 0,
-        links: 0,
-        columns: 0,
-    }
+    no_sizes(13)
 }
 
 // A card's address, as that part of the plan's own bytes; empty with a refusal: 12, 13, 14, with its number in `number`.

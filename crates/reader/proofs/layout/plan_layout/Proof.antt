@@ -7,11 +7,11 @@ use borrow.Author.Needs.{needs}
 use Rattle.reader.proofs.layout.plan_layout.Statement.{statement}
 use Rattle.reader.proofs.layout.plan_layout.Tie as tie
 
-no-layout-requires : tie.Need-no-layout-requires
-no-layout-requires c κs = search needs
+no-sizes-requires : tie.Need-no-sizes-requires
+no-sizes-requires c κs = search needs
 
 returns : tie.Need-returns
-returns c = layout-refused _ _ (λ z. omega (arith, layout-head _ z)) (c .no-layout .ensures _)
+returns c = layout-refused _ _ (λ z. omega (arith, layout-head _ z)) (c .no-sizes .ensures)
 
 number-at-requires : tie.Need-number-at-requires
 number-at-requires c κs = search needs
@@ -22,29 +22,29 @@ number-at-requires-2 c κs = search needs
 number-at-requires-3 : tie.Need-number-at-requires-3
 number-at-requires-3 c κs = search needs
 
-no-layout-requires-2 : tie.Need-no-layout-requires-2
-no-layout-requires-2 c κs = search needs
+no-sizes-requires-2 : tie.Need-no-sizes-requires-2
+no-sizes-requires-2 c κs = search needs
 
 returns-2 : tie.Need-returns-2
-returns-2 c = layout-refused _ _ (λ z. omega (arith, z)) (c .no-layout2 .ensures _)
+returns-2 c = layout-refused _ _ (λ z. omega (arith, z)) (c .no-sizes2 .ensures)
 
-no-layout-requires-3 : tie.Need-no-layout-requires-3
-no-layout-requires-3 c κs = search needs
+no-sizes-requires-3 : tie.Need-no-sizes-requires-3
+no-sizes-requires-3 c κs = search needs
 
 returns-3 : tie.Need-returns-3
-returns-3 c = layout-refused _ _ (λ z. omega (arith, z)) (c .no-layout3 .ensures _)
+returns-3 c = layout-refused _ _ (λ z. omega (arith, z)) (c .no-sizes3 .ensures)
 
-no-layout-requires-4 : tie.Need-no-layout-requires-4
-no-layout-requires-4 c κs = search needs
+no-sizes-requires-4 : tie.Need-no-sizes-requires-4
+no-sizes-requires-4 c κs = search needs
 
 returns-4 : tie.Need-returns-4
-returns-4 c = layout-refused _ _ (λ z. omega (arith, z)) (c .no-layout4 .ensures _)
+returns-4 c = layout-refused _ _ (λ z. omega (arith, z)) (c .no-sizes4 .ensures)
 
-no-layout-requires-5 : tie.Need-no-layout-requires-5
-no-layout-requires-5 c κs = search needs
+no-sizes-requires-5 : tie.Need-no-sizes-requires-5
+no-sizes-requires-5 c κs = search needs
 
 returns-5 : tie.Need-returns-5
-returns-5 c = layout-refused _ _ (λ z. omega (arith, z)) (c .no-layout5 .ensures _)
+returns-5 c = layout-refused _ _ (λ z. omega (arith, z)) (c .no-sizes5 .ensures)
 
 mul-if6 : tie.Need-mul-if6
 mul-if6 c = search needs
@@ -67,8 +67,8 @@ add-if6-3 c =
     let k = c .before .before .before .before .number-at3 .result in
     omega (arith, few-address-bytes n k (omega arith) (omega arith))
 
-no-layout-requires-6 : tie.Need-no-layout-requires-6
-no-layout-requires-6 c κs = search needs
+no-sizes-requires-6 : tie.Need-no-sizes-requires-6
+no-sizes-requires-6 c κs = search needs
 
 returns-6 : tie.Need-returns-6
 returns-6 c =
@@ -77,7 +77,7 @@ returns-6 c =
     let k = c .before .before .before .before .before .before .number-at3 in
     layout-refused _ _ (λ z.
     let read = layout-read _ (n .result) (m .result) (k .result) (n .ensures .0) (m .ensures .0) (k .ensures .0) z in
-    omega (arith, read .long, address-bytes-counted (n .result) (k .result))) (c .no-layout6 .ensures _)
+    omega (arith, read .long, address-bytes-counted (n .result) (k .result))) (c .no-sizes6 .ensures)
 
 cast-t13 : tie.Need-cast-t13
 cast-t13 c = search needs
@@ -111,25 +111,25 @@ pub plan-layout-spec : {M : Type 1} → statement M
 plan-layout-spec =
     tie.close
     (tie.spec
-    no-layout-requires
+    no-sizes-requires
     returns
     number-at-requires
     number-at-requires-2
     number-at-requires-3
-    no-layout-requires-2
+    no-sizes-requires-2
     returns-2
-    no-layout-requires-3
+    no-sizes-requires-3
     returns-3
-    no-layout-requires-4
+    no-sizes-requires-4
     returns-4
-    no-layout-requires-5
+    no-sizes-requires-5
     returns-5
     mul-if6
     add-if6
     add-if6-2
     mul-if6-2
     add-if6-3
-    no-layout-requires-6
+    no-sizes-requires-6
     returns-6
     cast-t13
     cast-t14

@@ -1,5 +1,5 @@
 -- 12 comes from the layout, 13 from the content; a plan that passes both is measured. Assumes nothing.
-use mathlib.Core.Path.{refl, sym, _∙_}
+use mathlib.Core.Path.{sym, _∙_}
 use Rattle.reader.proofs.Reading.{says-laid-out}
 use Rattle.reader.proofs.ReadAnswer.{read-says-layout, layout-passed, read-says-sizes, read-says-content, read-promise}
 use borrow.Author.Needs.{needs}
@@ -35,15 +35,17 @@ returns-2 c =
     (at-plan-layout .plan-layout .ensures) (at-if1 .if1 .left) (sym (c .before .content-holds .ensures) ∙ c .if2 .taken) in
     (says, read-promise _ _ says)
 
+no-sizes-requires : tie.Need-no-sizes-requires
+no-sizes-requires c κs = search needs
+
 returns-3 : tie.Need-returns-3
 returns-3 c =
-    let at-if1 = c .before .before .before in
+    let at-if1 = c .before .before .before .before in
     let at-plan-layout = at-if1 .before .before in
     let at-args = at-plan-layout .before .before in
     let says = read-says-content (at-args .args .plan .now) _
     (layout-passed _ (at-plan-layout .plan-layout .result) (at-plan-layout .plan-layout .ensures) (at-if1 .if1 .left))
-    (sym (c .before .content-holds .ensures) ∙ c .if2 .left)
-    (record { number = refl; cards = refl; links = refl; columns = refl }) in (says, read-promise _ _ says)
+    (sym (c .before .before .content-holds .ensures) ∙ c .before .if2 .left) (c .no-sizes .ensures) in (says, read-promise _ _ says)
 
 pub read-plan-spec : {M : Type 1} → statement M
 read-plan-spec =
@@ -54,4 +56,5 @@ read-plan-spec =
     cast-content-holds
     content-holds-requires
     returns-2
+    no-sizes-requires
     returns-3)
