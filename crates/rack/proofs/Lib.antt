@@ -13,6 +13,7 @@ pub mod Refusals
 pub mod Acceptance
 pub mod FewColumns
 pub mod WiringFile
+pub mod PlanFile
 pub mod Zeros
 pub mod Appending
 pub mod Numbers

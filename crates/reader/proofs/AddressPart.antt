@@ -2,18 +2,18 @@
 use mathlib.Core.Path.{_≡_, refl, sym, ap, _∙_}
 use mathlib.Core.Logic.{_≢_}
 use mathlib.Core.List.{List, []}
-use Prim.Native.Nat.{ℕ, _+_, _-_, _/_, _≤_, _<_}
+use Prim.Native.Nat.{ℕ, _+_, _*_, _-_, _/_, _≤_, _<_}
 use native.Mathlib.Nat.{add-sub-cancel-left}
 use native.Mathlib.Omega.{arith}
 use base.Fml.{GName}
-use lib.ListN.{take, drop}
+use lib.ListN.{length, take, drop}
 use borrow.Author.Tests.{eq-eqb, ne-eqb, le-leb, lt-leb}
-use Rattle.rack.specs.PlanFile.{plan-cards, plan-links, plan-columns, address-size, address-start}
+use Rattle.rack.specs.PlanFile.{plan-cards, plan-links, plan-columns, address-size, addresses-start, address-start}
 use Rattle.reader.specs.Plan.{plan-refusal}
 use Rattle.reader.specs.Reading.{Read-says, address-refusal, address-part, Laid-out, address-offset, Address-says}
 use Rattle.reader.specs.declared.layout.Sizes.{Sizes}
 use Rattle.reader.proofs.Plan.{layout-facts, layout-read, plan-clear}
-use Rattle.reader.proofs.Addresses.{Inside, address-at, address-inside}
+use Rattle.reader.proofs.Addresses.{address-counted}
 
 module _ (ps : List ℕ) (c : ℕ) where
   -- THE NUMBER: the plan's, 14 or none
@@ -76,20 +76,17 @@ module _ (ps : List ℕ) (c : ℕ) (r : Sizes) (s : Read-says ps r) where
     read-laid-out =
         layout-read ps (r .cards) (r .links) (r .columns) cards-answered links-answered columns-answered (layout-facts ps (plan-clear ps read .0))
 
-    pub address-place : c < r .cards → Inside ps (r .links) (r .columns) c
-    address-place h = address-inside ps (r .cards) (r .links) (r .columns) read-laid-out c h
+    -- the part that begins at the start and has the size that the code counts
+    module _ (size start : ℕ) (inside : c < r .cards) (sized : size ≡ address-size (r .columns)) (starts : start ≡ addresses-start (r .links) + c * size) where
+      counted : (start ≡ address-start ps c) × (start + size ≤ length ps) × (size ≡ (r .columns + 7) / 8)
+      counted = address-counted ps (r .cards) (r .links) (r .columns) read-laid-out c size start inside sized starts
 
-    abbrev start : ℕ
-    start = address-at (r .links) (r .columns) c
+      pub address-ends : start + size ≤ length ps
+      address-ends = counted .1
 
-    start-answered : start ≡ address-start ps c
-    unfolding address-size
-    start-answered = rw (links-answered, columns-answered) refl
-
-    pub address-handed : c < r .cards → Handed ps c (r .number) start (take (start + (r .columns + 7) / 8 - start) (drop start ps))
-    unfolding address-size
-    address-handed h =
-        let clear = card-clear ps c read (omega (arith, cards-answered)) in
-        let z = clear-part ps c clear in
-        handed ps c (r .number) start (take (start + (r .columns + 7) / 8 - start) (drop start ps)) (start-answered ∙ sym (z .0))
-        (rw (add-sub-cancel-left, start-answered, columns-answered) (sym (z .1))) (e ∙ sym clear)
+      pub address-handed : Handed ps c (r .number) start (take (start + size - start) (drop start ps))
+      address-handed =
+          let clear = card-clear ps c read (omega (arith, cards-answered)) in
+          let z = clear-part ps c clear in
+          handed ps c (r .number) start (take (start + size - start) (drop start ps)) (counted .0 ∙ sym (z .0))
+          (rw (add-sub-cancel-left, counted .0, sized, columns-answered) (sym (z .1))) (e ∙ sym clear)

@@ -1,5 +1,5 @@
 -- Addresses in a plan's bytes: where they stand, and their differing places byte by byte. Assumes nothing.
-use mathlib.Core.Path.{_≡_, refl, ap, _∙_}
+use mathlib.Core.Path.{_≡_, refl, sym, ap, _∙_}
 use mathlib.Core.List.{List}
 use Prim.Native.Nat.{ℕ, _+_, _*_, _/_, _%_, _^_, _≤_, _<_}
 use native.Mathlib.Nat.{mul-le-mul-right}
@@ -9,16 +9,9 @@ use lib.Pow.{shl-exact}
 use Rattle.rack.specs.Bits.{number-bit}
 use Rattle.rack.specs.Columns.{hamming}
 use Rattle.rack.proofs.Hamming.{hamming-none, hamming-le, hamming-add, hamming-ext, hamming-cut}
-use Rattle.rack.specs.PlanFile.{plan-columns, plan-bit, plan-hamming, address-size}
+use Rattle.rack.specs.PlanFile.{plan-columns, plan-bit, plan-hamming, address-size, addresses-start, address-start}
+use Rattle.rack.proofs.PlanFile.{address-size-is, start-counted}
 use Rattle.reader.specs.Reading.{Laid-out, bit-from}
-use Rattle.reader.proofs.Reading.{few-address-bytes}
-
--- an address of k columns behind m links starts inside a plan and ends there
-abbrev pub address-at : (m k c : ℕ) → ℕ
-address-at m k c = 6 + 4 * m + c * ((k + 7) / 8)
-
-abbrev pub Inside : List ℕ → (m k c : ℕ) → Type 0
-Inside ps m k c = (address-at m k c + (k + 7) / 8 ≤ length ps) × (length ps ≤ 16390)
 
 module _ (ps : List ℕ) where
   -- BYTES from a place on: bit i of byte t, and the differing places of t bytes and k bits more
@@ -42,32 +35,38 @@ module _ (ps : List ℕ) where
   unfolding plan-hamming
   hamming-columns a b = hamming-le (plan-columns ps) (plan-bit ps a) (plan-bit ps b)
 
+  -- where the code counts that the address of card c begins, it does, and it ends inside the plan
   module _ (n m k : ℕ) (z : Laid-out ps n m k) where
-    pub address-inside : (c : ℕ) → c < n → Inside ps m k c
-    unfolding address-size
-    address-inside c h =
-        let e : (c + 1) * ((k + 7) / 8) ≤ n * ((k + 7) / 8) = mul-le-mul-right ((k + 7) / 8) (omega arith) in
-        let f : (c + 1) * ((k + 7) / 8) ≡ c * ((k + 7) / 8) + (k + 7) / 8 = omega arith in
-        (omega (arith, z .long), omega (arith, z .long, few-address-bytes n k (z .few) (z .few-columns)))
-
-    -- the differing places of two addresses: of the whole bytes, and of what is left in the last one
-    pub plan-hamming-bytes : (a b : ℕ)
-        → plan-hamming ps a b ≡ hamming (8 * (k / 8)) (bit-from ps (address-at m k a)) (bit-from ps (address-at m k b))
-        + hamming (k % 8) (number-bit (getD ps (address-at m k a + k / 8) 0)) (number-bit (getD ps (address-at m k b + k / 8) 0))
-    unfolding plan-hamming plan-bit bit-from address-size
-    plan-hamming-bytes a b =
-        let e : k ≡ 8 * (k / 8) + k % 8 = omega arith in
-        places ∙ ap (λ (j : ℕ). hamming j (bit-from ps (address-at m k a)) (bit-from ps (address-at m k b))) e
-        ∙ hamming-bytes (address-at m k a) (address-at m k b) (k / 8) (k % 8) (omega arith)
+    pub address-counted : (c size start : ℕ) → c < n → size ≡ address-size k → start ≡ addresses-start m + c * size
+        → (start ≡ address-start ps c) × (start + size ≤ length ps) × (size ≡ (k + 7) / 8)
+    address-counted c size start h e f =
+        let g : (c + 1) * size ≤ n * size = mul-le-mul-right size (omega arith) in
+        let l : n * address-size k ≡ n * size = ap (λ (s : ℕ). n * s) (sym e) in (
+          start-counted m k c size start e f ∙ place,
+          omega (arith, z .long),
+          e ∙ address-size-is k,
+        )
       where
-        places : plan-hamming ps a b ≡ hamming k (bit-from ps (address-at m k a)) (bit-from ps (address-at m k b))
-        places = rw (z .links, z .columns) refl
+        place : addresses-start m + c * address-size k ≡ address-start ps c
+        place = rw (z .links, z .columns) refl
 
-    pub plan-hamming-whole : (a b : ℕ) → k % 8 ≡ 0 → plan-hamming ps a b ≡ hamming (8 * (k / 8)) (bit-from ps (address-at m k a)) (bit-from ps (address-at m k b))
-    plan-hamming-whole a b e =
-        let x = number-bit (getD ps (address-at m k a + k / 8) 0) in
-        let y = number-bit (getD ps (address-at m k b + k / 8) 0) in
-        omega (arith, plan-hamming-bytes a b, ap (λ (i : ℕ). hamming i x y) e, hamming-none x y)
+  -- the differing places of two addresses that begin at p and q: of the whole bytes, and of what is left in the last one
+  module _ (a b k p q : ℕ) (columns : k ≡ plan-columns ps) (at-a : p ≡ address-start ps a) (at-b : q ≡ address-start ps b) where
+    pub plan-hamming-bytes : plan-hamming ps a b ≡ hamming (8 * (k / 8)) (bit-from ps p) (bit-from ps q)
+        + hamming (k % 8) (number-bit (getD ps (p + k / 8) 0)) (number-bit (getD ps (q + k / 8) 0))
+    unfolding plan-hamming plan-bit bit-from
+    plan-hamming-bytes =
+        let e : k ≡ 8 * (k / 8) + k % 8 = omega arith in
+        places ∙ ap (λ (j : ℕ). hamming j (bit-from ps p) (bit-from ps q)) e ∙ hamming-bytes p q (k / 8) (k % 8) (omega arith)
+      where
+        places : plan-hamming ps a b ≡ hamming k (bit-from ps p) (bit-from ps q)
+        places = rw (columns, at-a, at-b) refl
+
+    pub plan-hamming-whole : k % 8 ≡ 0 → plan-hamming ps a b ≡ hamming (8 * (k / 8)) (bit-from ps p) (bit-from ps q)
+    plan-hamming-whole e =
+        let x = number-bit (getD ps (p + k / 8) 0) in
+        let y = number-bit (getD ps (q + k / 8) 0) in
+        omega (arith, plan-hamming-bytes, ap (λ (i : ℕ). hamming i x y) e, hamming-none x y)
 
 -- THE LAST BYTE of an address: a bit's weight, and the bytes cut below it
 pub bit-weight : (k : ℕ) → k < 8 → 1 * 2 ^ k % 256 ≡ 2 ^ k

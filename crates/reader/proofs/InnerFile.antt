@@ -6,6 +6,7 @@ use native.Mathlib.Nat.{sub-zero}
 use native.Mathlib.Omega.{arith}
 use lib.ListN.{length, getD, take, drop, replicate, length-append}
 use lib.Seq.{getD-take, getD-drop, take-at}
+use Rattle.rack.specs.Limits.{most-links}
 use Rattle.rack.specs.Wiring.{link, wiring}
 use Rattle.rack.specs.Refusals.{refusal, links-refusal, wiring-refusal}
 use Rattle.rack.specs.Buffers.{number-at, Appends}
@@ -76,11 +77,11 @@ module _ (ps : List ℕ) (z : Layout ps) where
   inner-refusal = rw (or-else-second (refusal (sizes-fault (inner-file ps)) 0) (links-refusal (file-wiring (inner-file ps))) inner-sizes, inner-wiring) refl
 
 -- copied into a buffer of zeros, piece after piece
-pub inner-copied : (ps : List ℕ) (ends : ℕ) (o₀ o₁ o₂ : List ℕ) → 6 + ends ≤ length ps → o₀ ≡ replicate 8196 0 → Appends 0 o₀ o₁ (take 4 (drop 0 ps)) → Appends 4 o₁ o₂ (take ends (drop 6 ps))
+pub inner-copied : (ps : List ℕ) (ends : ℕ) (o₀ o₁ o₂ : List ℕ) → 6 + ends ≤ length ps → o₀ ≡ replicate (4 + 4 * most-links) 0 → Appends 0 o₀ o₁ (take 4 (drop 0 ps)) → Appends 4 o₁ o₂ (take ends (drop 6 ps))
     → take (4 + ends) o₂ ≡ take 4 (drop 0 ps) ++ take ends (drop 6 ps)
 inner-copied ps ends o₀ o₁ o₂ h e a b =
     let head = length-part 0 4 ps (omega arith) in
-    let w = appends-then 0 4 o₀ o₁ o₂ (take 4 (drop 0 ps)) (take ends (drop 6 ps)) (omega (arith, head)) a b [] refl (rw e (written-none 8196)) in
+    let w = appends-then 0 4 o₀ o₁ o₂ (take 4 (drop 0 ps)) (take ends (drop 6 ps)) (omega (arith, head)) a b [] refl (rw e (written-none (4 + 4 * most-links))) in
     ap (take (4 + ends)) (w .is)
     ∙ take-at (take 4 (drop 0 ps) ++ take ends (drop 6 ps)) (replicate (length o₂ - length (take 4 (drop 0 ps) ++ take ends (drop 6 ps))) 0) (4 + ends)
     (simp length-append (omega (arith, head, length-part 6 ends ps (omega arith))))

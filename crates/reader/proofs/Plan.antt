@@ -19,7 +19,7 @@ use Rattle.rack.proofs.Accepted.{Accepted, accepted-inside}
 use Rattle.rack.proofs.WiringFile.{Fits}
 use Rattle.planner.specs.PlanBytes.{plan-bytes}
 use Rattle.planner.proofs.PlanBytes.{length-plan, written-cards, written-links, written-columns, written-wiring}
-use Rattle.rack.specs.PlanFile.{plan-cards, plan-links, plan-columns, plan-wiring, address-size}
+use Rattle.rack.specs.PlanFile.{plan-cards, plan-links, plan-columns, plan-wiring, address-size, addresses-start}
 use Rattle.reader.specs.Plan.{layout-holds, content-holds, plan-refusal}
 use Rattle.reader.specs.Reading.{Laid-out}
 
@@ -28,8 +28,16 @@ abbrev pub Layout : List ℕ → Type 0
 Layout ps = Laid-out ps (plan-cards ps) (plan-links ps) (plan-columns ps)
 
 module _ (ps : List ℕ) where
+  abbrev plan-length : ℕ
+  plan-length = addresses-start (plan-links ps) + plan-cards ps * address-size (plan-columns ps)
+
+  pub layout-of : 1 ≤ plan-cards ps → plan-cards ps ≤ most-cards → plan-links ps ≤ most-links → plan-columns ps ≤ most-columns → length ps ≡ plan-length
+      → Layout ps
+  layout-of some few few-links few-columns long =
+      record { cards = refl; links = refl; columns = refl; some = some; few = few; few-links = few-links; few-columns = few-columns; long = long }
+
   abbrev long-test : Bool
-  long-test = eqb (length ps) (6 + 4 * plan-links ps + plan-cards ps * address-size (plan-columns ps))
+  long-test = eqb (length ps) plan-length
 
   pub layout-facts : layout-holds ps ≡ true → Layout ps
   unfolding layout-holds
@@ -43,16 +51,12 @@ module _ (ps : List ℕ) where
       let h₄ = and-left t₄ (leb (plan-columns ps) most-columns) h₅ in
       let h₃ = and-left t₃ (leb (plan-links ps) most-links) h₄ in
       let h₂ = and-left t₂ (leb (plan-cards ps) most-cards) h₃ in
-      record {
-        cards = refl;
-        links = refl;
-        columns = refl;
-        some = leb-true 1 (plan-cards ps) (and-right t₁ (leb 1 (plan-cards ps)) h₂);
-        few = leb-true (plan-cards ps) most-cards (and-right t₂ (leb (plan-cards ps) most-cards) h₃);
-        few-links = leb-true (plan-links ps) most-links (and-right t₃ (leb (plan-links ps) most-links) h₄);
-        few-columns = leb-true (plan-columns ps) most-columns (and-right t₄ (leb (plan-columns ps) most-columns) h₅);
-        long = eqb-true (length ps) (6 + 4 * plan-links ps + plan-cards ps * address-size (plan-columns ps)) (and-right t₅ long-test h);
-      }
+      layout-of
+      (leb-true 1 (plan-cards ps) (and-right t₁ (leb 1 (plan-cards ps)) h₂))
+      (leb-true (plan-cards ps) most-cards (and-right t₂ (leb (plan-cards ps) most-cards) h₃))
+      (leb-true (plan-links ps) most-links (and-right t₃ (leb (plan-links ps) most-links) h₄))
+      (leb-true (plan-columns ps) most-columns (and-right t₄ (leb (plan-columns ps) most-columns) h₅))
+      (eqb-true (length ps) plan-length (and-right t₅ long-test h))
 
   pub layout-head : Layout ps → 6 ≤ length ps
   layout-head z = omega (arith, z .long)
@@ -66,7 +70,7 @@ module _ (ps : List ℕ) where
         le-leb (plan-cards ps) most-cards (z .few),
         le-leb (plan-links ps) most-links (z .few-links),
         le-leb (plan-columns ps) most-columns (z .few-columns),
-        eq-eqb (length ps) (6 + 4 * plan-links ps + plan-cards ps * address-size (plan-columns ps)) (z .long),
+        eq-eqb (length ps) plan-length (z .long),
       ) refl
 
   -- whoever has read the sizes has the same facts of what was read
@@ -123,16 +127,7 @@ module _ (w : Wiring) (a : Accepted w) (high : w .cards ≤ most-cards) (few-lin
       let n = written-cards w (omega arith) in
       let m = written-links w (omega arith) in
       let k = written-columns w columns-fit in
-      record {
-        cards = refl;
-        links = refl;
-        columns = refl;
-        some = omega (arith, a .rack .some);
-        few = omega arith;
-        few-links = omega arith;
-        few-columns = omega (arith, a .few);
-        long = rw (n, m, k) (length-plan w);
-      }
+      layout-of (plan-bytes w) (omega (arith, a .rack .some)) (omega arith) (omega arith) (omega (arith, a .few)) (rw (n, m, k) (length-plan w))
 
   pub plan-read : wiring-refusal w .number ≡ 0 → (plan-refusal (plan-bytes w) ≡ 0) × (plan-wiring (plan-bytes w) ≡ w)
   plan-read h =

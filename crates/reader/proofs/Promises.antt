@@ -29,7 +29,7 @@ use Rattle.reader.specs.Promises.{Read-exactly, Calls-agree, Layout-in-r
 use Rattle.reader.specs.Promises.{No-such-card}
 use Rattle.reader.specs.Reading.{Read-says, address-refusal}
 use Rattle.reader.specs.declared.layout.Sizes.{Sizes}
-use Rattle.reader.proofs.Plan.{Layout, layout-facts, facts-layout, plan-clear, plan-read, accepted-fits, layout-head, plan-refusal-most}
+use Rattle.reader.proofs.Plan.{Layout, layout-of, layout-facts, facts-layout, plan-clear, plan-read, accepted-fits, layout-head, plan-refusal-most}
 use Rattle.reader.proofs.AddressPart.{plan-refused, card-refused, card-clear, refused-part}
 
 -- A PLAN THAT WAS READ has an accepted wiring inside, and is its plan
@@ -96,8 +96,7 @@ pub layout-in-range : Layout-in-range
 unfolding Layout-in-range
 layout-in-range ps = (
   (λ h. let z = layout-facts ps h in (layout-head ps z, z .some, z .few, z .few-links, z .few-columns, z .long)),
-  λ z. facts-layout ps
-      (record { cards = refl; links = refl; columns = refl; some = z .1; few = z .2; few-links = z .3; few-columns = z .4; long = z .5 }),
+  λ z. facts-layout ps (layout-of ps (z .1) (z .2) (z .3) (z .4) (z .5)),
 )
 
 pub address-fits : Address-fits

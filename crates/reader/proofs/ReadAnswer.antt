@@ -1,5 +1,5 @@
 -- What reading says: 12 from the layout, 13 or 0 from what the planner writes for the wiring file inside. Assumes nothing.
-use mathlib.Core.Path.{_≡_, refl, sym, ap, _∙_, subst}
+use mathlib.Core.Path.{_≡_, refl, sym, ap, _∙_}
 use mathlib.Core.Bool.{Bool, true, false}
 use mathlib.Core.Logic.{_≢_}
 use mathlib.Core.List.{List, _++_}
@@ -49,17 +49,21 @@ pub read-says-content : (ps : List ℕ) (r : Sizes) → layout-holds ps ≡ true
 unfolding plan-refusal
 read-says-content ps r l h e = rw (l, h) (no-sizes-say ps 13 r (λ z. omega arith) e)
 
-module _ (ps bs : List ℕ) (l : layout-holds ps ≡ true) (cut : bs ≡ inner-file ps) (a : Answer) (o out : List ℕ) (room : length o ≡ lent-plan) (says : Write-says bs a o out) where
-  w : Write-says (inner-file ps) a o out
-  w = subst (λ (xs : List ℕ). Write-says xs a o out) cut says
+-- what the planner answered for the wiring file inside, and what it left in a buffer
+pub record Inner-written (ps : List ℕ) (a : Answer) (old out : List ℕ) : Type 0 where
+  pub layout : layout-holds ps ≡ true
+  pub room : length old ≡ lent-plan
+  pub says : Write-says (inner-file ps) a old out
 
+module _ (ps : List ℕ) (a : Answer) (o out : List ℕ) (w : Inner-written ps a o out) where
   abbrev plan : List ℕ
   plan = plan-bytes (plan-wiring ps)
 
   inner-number : a .number ≡ wiring-refusal (plan-wiring ps) .number
   unfolding writing-refusal
   inner-number =
-      w .answer .number ∙ rw (eq-eqb (length o) lent-plan room) (ap (λ (f : Refusal). f .number) (inner-refusal ps (layout-facts ps l)))
+      w .says .answer .number
+      ∙ rw (eq-eqb (length o) lent-plan (w .room)) (ap (λ (f : Refusal). f .number) (inner-refusal ps (layout-facts ps (w .layout))))
 
   pub content-refused : a .number ≢ 0 → content-holds ps ≡ false
   unfolding content-holds
@@ -74,12 +78,15 @@ module _ (ps bs : List ℕ) (l : layout-holds ps ≡ true) (cut : bs ≡ inner-f
     length-answered : a .value ≡ length plan
     unfolding writing-refusal
     length-answered =
-        w .answer .value
-        ∙ rw (eq-eqb (writing-refusal (inner-file ps) (length o) .number) 0 (sym (w .answer .number) ∙ z), inner-wiring ps (layout-facts ps l)) refl
+        w .says .answer .value
+        ∙ rw (
+          eq-eqb (writing-refusal (inner-file ps) (length o) .number) 0 (sym (w .says .answer .number) ∙ z),
+          inner-wiring ps (layout-facts ps (w .layout)),
+        ) refl
 
     written : out ≡ plan ++ replicate (length o - length plan) 0
     unfolding left-in
-    written = w .output-left ∙ rw (z, inner-wiring ps (layout-facts ps l)) refl
+    written = w .says .output-left ∙ rw (z, inner-wiring ps (layout-facts ps (w .layout))) refl
 
     pub content-room : a .value ≡ length ps → length ps ≤ length out
     content-room e = omega (arith, length-answered, ap length written, length-append plan (replicate (length o - length plan) 0))

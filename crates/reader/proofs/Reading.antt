@@ -3,25 +3,14 @@ use mathlib.Core.Path.{_≡_, refl, sym, subst}
 use mathlib.Core.Bool.{true, false}
 use mathlib.Core.Logic.{_≢_}
 use mathlib.Core.List.{List}
-use Prim.Native.Nat.{ℕ, _+_, _*_, _/_, _≤_}
-use native.Mathlib.Nat.{mul-le-mul}
+use Prim.Native.Nat.{ℕ}
 use native.Mathlib.Omega.{arith}
 use borrow.Author.Tests.{ne-eqb}
-use Rattle.rack.specs.Limits.{most-cards, most-columns}
 use Rattle.rack.proofs.Logic.{by-bool, not-true-false}
-use Rattle.rack.specs.PlanFile.{address-size}
 use Rattle.reader.specs.Plan.{layout-holds}
 use Rattle.reader.specs.Reading.{Laid-out, Sizes-say, no-sizes, layout-refusal, Layout-says}
 use Rattle.reader.specs.declared.layout.Sizes.{Sizes}
 use Rattle.reader.proofs.Plan.{Layout, layout-facts, facts-layout, layout-read, read-layout}
-
--- the bytes of all addresses, as the code counts them
-pub address-bytes-counted : (n k : ℕ) → n * ((k + 7) / 8) ≡ n * address-size k
-unfolding address-size
-address-bytes-counted n k = refl
-
-pub few-address-bytes : (n k : ℕ) → n ≤ most-cards → k ≤ most-columns → n * ((k + 7) / 8) ≤ 8192
-few-address-bytes n k hn hk = mul-le-mul {m₂ = 32} hn (omega arith)
 
 module _ (ps : List ℕ) where
   -- a refusal has no sizes

@@ -5,6 +5,8 @@ use rack::bytes::number_at;
 use rack::limits::MOST_CARDS;
 use rack::limits::MOST_COLUMNS;
 use rack::limits::MOST_LINKS;
+use rack::plan_file::address_size;
+use rack::plan_file::address_start;
 
 // A refusal's number, 0 for none, and with 0 a plan's sizes.
 pub struct Sizes {
@@ -48,7 +50,7 @@ pub fn plan_layout(plan: &[u8]) -> Sizes
     if MOST_COLUMNS < k {
         return no_sizes(12);
     }
-    if plan.len() != 6 + 4 * m + n * ((k + 7) / 8) {
+    if plan.len() != address_start(m, address_size(k), n) {
         return no_sizes(12);
     }
     Sizes {

@@ -8,6 +8,8 @@ ghost use Rattle.rack.specs.Ones.{Counts};
 ghost use Rattle.rack.specs.PlanFile.{plan-hamming};
 ghost use Rattle.reader.specs.Reading.{Laid-out, bit-from};
 use rack::places::byte_hamming;
+use rack::plan_file::address_size;
+use rack::plan_file::address_start;
 
 // The places in which the bits of `count` bytes from `first` on differ from those from `second` on.
 fn bytes_hamming(ones: &[u8; 256], plan: &[u8], first: usize, second: usize, count: usize) -> u32
@@ -45,12 +47,12 @@ pub fn plan_hamming(
     requires { ⌜ Counts (now ones) × Laid-out (now plan) n m k × (a < n) × (b < n) ⌝ }
     ensures { λ r. ⌜ r ≡ plan-hamming (now (plan .entry)) a b ⌝ }
 {
-    let each = (k + 7) / 8;
-    let first = 6 + 4 * m + a * each;
-    let second = 6 + 4 * m + b * each;
+    let size = address_size(k);
+    let first = address_start(m, size, a);
+    let second = address_start(m, size, b);
     let whole = k / 8;
     let sum = bytes_hamming(ones, plan, first, second, whole);
-    if each == whole {
+    if size == whole {
         return sum;
     }
     sum + low_hamming(ones, plan[first + whole], plan[second + whole], k % 8)

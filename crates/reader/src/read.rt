@@ -1,12 +1,13 @@
 // Reading a plan: refusal 13, by comparison with the plan that the planner writes for the wiring inside; and a card's address.
 ghost use mathlib.Core.Path.{_≡_};
-ghost use Prim.Native.Nat.{_+_, _≤_};
+ghost use Prim.Native.Nat.{_+_, _*_, _≤_};
 ghost use lib.Dec.{eqb};
 ghost use mathlib.Core.Bool.{true};
 ghost use mathlib.Core.List.{_++_};
 ghost use lib.ListN.{length, take, drop, replicate};
 ghost use Rattle.rack.specs.Lists.{same};
 ghost use Rattle.rack.specs.Buffers.{Appends};
+ghost use Rattle.rack.specs.Limits.{most-links};
 ghost use Rattle.rack.specs.PlanFile.{plan-links};
 ghost use Rattle.reader.specs.Plan.{content-holds, layout-holds};
 ghost use Rattle.reader.specs.Promises.{Measured};
@@ -15,6 +16,10 @@ use crate::layout::Sizes;
 use crate::layout::no_sizes;
 use crate::layout::plan_layout;
 use planner::write_plan;
+use rack::limits::LENT_PLAN;
+use rack::limits::MOST_LINKS;
+use rack::plan_file::address_size;
+use rack::plan_file::address_start;
 
 // Appends `count` bytes of a plan, from `start` on, to a buffer that is written up to `at`.
 fn copy_part(plan: &[u8], start: usize, count: usize, output: &mut [u8], at: usize)
@@ -45,7 +50,7 @@ fn begins_with(written: &[u8], plan: &[u8]) -> bool
 
 // The wiring file inside a plan: its first 4 bytes, and `ends` bytes from byte 6 on. The buffer is zero at entry.
 fn inner_file(plan: &[u8], ends: usize, file: &mut [u8])
-    requires { ⌜ (6 + ends ≤ length (now plan)) × (ends ≤ 8192) × (now file ≡ replicate 8196 0) ⌝ }
+    requires { ⌜ (6 + ends ≤ length (now plan)) × (ends ≤ 4 * most-links) × (now file ≡ replicate (4 + 4 * most-links) 0) ⌝ }
     ensures { λ _. ⌜ take (4 + ends) (now (file .exit)) ≡ take 4 (drop 0 (now (plan .entry))) ++ take ends (drop 6 (now (plan .entry))) ⌝ }
 {
     copy_part(plan, 0, 4, file, 0);
@@ -57,9 +62,9 @@ fn content_holds(plan: &[u8], m: usize) -> bool
     requires { ⌜ (layout-holds (now plan) ≡ true) × (m ≡ plan-links (now plan)) ⌝ }
     ensures { λ r. ⌜ r ≡ content-holds (now (plan .entry)) ⌝ }
 {
-    let mut file = [0u8; 8196];
+    let mut file = [0u8; 4 + 4 * MOST_LINKS];
     inner_file(plan, 4 * m, &mut file);
-    let mut written = [0u8; 16390];
+    let mut written = [0u8; LENT_PLAN];
     let size = 4 + 4 * m;
     let answer = write_plan(&file[0..size], &mut written);
     if answer.number != 0 {
@@ -100,8 +105,7 @@ pub fn card_address<'a>(plan: &'a [u8], card: u32, number: &mut u32) -> &'a [u8]
         *number = 14;
         return &plan[0..0];
     }
-    let size = ((sizes.columns + 7) / 8) as usize;
-    let start = 6 + 4 * (sizes.links as usize) + (card as usize) * size;
-    let end = start + size;
-    &plan[start..end]
+    let size = address_size(sizes.columns as usize);
+    let start = address_start(sizes.links as usize, size, card as usize);
+    &plan[start..start + size]
 }

@@ -1,8 +1,9 @@
 -- Each early return leaves a fact of the layout that fails, and at the end all hold: the answer is 12 or the sizes read. Assumes nothing.
 use mathlib.Core.Path.{refl}
 use native.Mathlib.Omega.{arith}
+use Rattle.rack.proofs.PlanFile.{start-counted}
 use Rattle.reader.proofs.Plan.{layout-head, layout-read}
-use Rattle.reader.proofs.Reading.{address-bytes-counted, few-address-bytes, layout-refused, layout-passed}
+use Rattle.reader.proofs.Reading.{layout-refused, layout-passed}
 use borrow.Author.Needs.{needs}
 use Rattle.reader.proofs.layout.plan_layout.Statement.{statement}
 use Rattle.reader.proofs.layout.plan_layout.Tie as tie
@@ -46,56 +47,46 @@ no-sizes-requires-5 c κs = search needs
 returns-5 : tie.Need-returns-5
 returns-5 c = layout-refused _ _ (λ z. omega (arith, z)) (c .no-sizes5 .ensures)
 
-mul-if6 : tie.Need-mul-if6
-mul-if6 c = search needs
+address-size-requires : tie.Need-address-size-requires
+address-size-requires c κs = search needs
 
-add-if6 : tie.Need-add-if6
-add-if6 c = search needs
-
-add-if6-2 : tie.Need-add-if6-2
-add-if6-2 c = search needs
-
-mul-if6-2 : tie.Need-mul-if6-2
-mul-if6-2 c =
-    let n = c .before .before .before .before .before .before .number-at .result in
-    let k = c .before .before .before .before .number-at3 .result in
-    omega (arith, few-address-bytes n k (omega arith) (omega arith))
-
-add-if6-3 : tie.Need-add-if6-3
-add-if6-3 c =
-    let n = c .before .before .before .before .before .before .number-at .result in
-    let k = c .before .before .before .before .number-at3 .result in
-    omega (arith, few-address-bytes n k (omega arith) (omega arith))
+address-start-requires : tie.Need-address-start-requires
+address-start-requires c κs = search needs
 
 no-sizes-requires-6 : tie.Need-no-sizes-requires-6
 no-sizes-requires-6 c κs = search needs
 
 returns-6 : tie.Need-returns-6
 returns-6 c =
-    let n = c .before .before .before .before .before .before .before .before .number-at in
-    let m = c .before .before .before .before .before .before .before .number-at2 in
-    let k = c .before .before .before .before .before .before .number-at3 in
+    let at-start = c .before .before in
+    let at-size = at-start .before in
+    let at-k = at-size .before .before .before .before .before in
+    let at-m = at-k .before in
+    let n = at-m .before .number-at in
+    let m = at-m .number-at2 in
+    let k = at-k .number-at3 in
     layout-refused _ _ (λ z.
     let read = layout-read _ (n .result) (m .result) (k .result) (n .ensures .0) (m .ensures .0) (k .ensures .0) z in
-    omega (arith, read .long, address-bytes-counted (n .result) (k .result))) (c .no-sizes6 .ensures)
+    omega (arith, read .long, start-counted _ _ _ _ _ (at-size .address-size .ensures .0) (at-start .address-start .ensures .0))) (c .no-sizes6 .ensures)
 
-cast-t13 : tie.Need-cast-t13
-cast-t13 c = search needs
+cast-t9 : tie.Need-cast-t9
+cast-t9 c = search needs
 
-cast-t14 : tie.Need-cast-t14
-cast-t14 c = search needs
+cast-t10 : tie.Need-cast-t10
+cast-t10 c = search needs
 
-cast-t15 : tie.Need-cast-t15
-cast-t15 c = search needs
+cast-t11 : tie.Need-cast-t11
+cast-t11 c = search needs
 
 returns-7 : tie.Need-returns-7
 returns-7 c =
-    let at-number-at3 = c .before .before .before .before .before in
-    let at-number-at2 = at-number-at3 .before in
-    let at-number-at = at-number-at2 .before in
-    let n = at-number-at .number-at in
-    let m = at-number-at2 .number-at2 in
-    let k = at-number-at3 .number-at3 in
+    let at-start = c .before in
+    let at-size = at-start .before in
+    let at-k = at-size .before .before .before .before .before in
+    let at-m = at-k .before in
+    let n = at-m .before .number-at in
+    let m = at-m .number-at2 in
+    let k = at-k .number-at3 in
     layout-passed _ _ (record {
       cards = n .ensures .0;
       links = m .ensures .0;
@@ -104,7 +95,7 @@ returns-7 c =
       few = omega arith;
       few-links = omega arith;
       few-columns = omega arith;
-      long = omega (arith, address-bytes-counted (n .result) (k .result));
+      long = omega (arith, start-counted _ _ _ _ _ (at-size .address-size .ensures .0) (at-start .address-start .ensures .0));
     }) refl
 
 pub plan-layout-spec : {M : Type 1} → statement M
@@ -124,14 +115,11 @@ plan-layout-spec =
     returns-4
     no-sizes-requires-5
     returns-5
-    mul-if6
-    add-if6
-    add-if6-2
-    mul-if6-2
-    add-if6-3
+    address-size-requires
+    address-start-requires
     no-sizes-requires-6
     returns-6
-    cast-t13
-    cast-t14
-    cast-t15
+    cast-t9
+    cast-t10
+    cast-t11
     returns-7)

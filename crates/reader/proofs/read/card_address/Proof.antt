@@ -1,6 +1,6 @@
 -- The address of a card below n lies within the plan. Assumes nothing.
 use native.Mathlib.Omega.{arith}
-use Rattle.reader.proofs.AddressPart.{address-refused, address-outside, read-laid-out, address-place, address-handed}
+use Rattle.reader.proofs.AddressPart.{address-refused, address-outside, read-laid-out, address-ends, address-handed}
 use borrow.Author.Needs.{needs}
 use Rattle.reader.proofs.read.card_address.Statement.{statement}
 use Rattle.reader.proofs.read.card_address.Tie as tie
@@ -41,61 +41,31 @@ returns-2 c =
     address-outside (at-args .args .plan .now) (at-args .args .card) (at-read-plan .read-plan .result)
     (at-read-plan .read-plan .ensures .0) (at-if1 .if1 .left) (c .before .if2 .taken) (at-args .args .plan .ptr) _
 
-add-size : tie.Need-add-size
-add-size c =
+cast-address-size : tie.Need-cast-address-size
+cast-address-size c = search needs
+
+address-size-requires : tie.Need-address-size-requires
+address-size-requires c κs =
     let at-if1 = c .before .before .before in
     let at-read-plan = at-if1 .before .before in
     let at-args = at-read-plan .before .before in
-    omega (
-      arith,
-      read-laid-out (at-args .args .plan .now) (at-args .args .card) (at-read-plan .read-plan .result)
-          (at-read-plan .read-plan .ensures .0) (at-if1 .if1 .left) .few-columns,
-    )
+    read-laid-out (at-args .args .plan .now) (at-args .args .card) (at-read-plan .read-plan .result)
+    (at-read-plan .read-plan .ensures .0) (at-if1 .if1 .left) .few-columns
 
-cast-size : tie.Need-cast-size
-cast-size c = search needs
+cast-address-start : tie.Need-cast-address-start
+cast-address-start c = search needs
 
-cast-start : tie.Need-cast-start
-cast-start c = search needs
-
-mul-start : tie.Need-mul-start
-mul-start c = search needs
-
-add-start : tie.Need-add-start
-add-start c = search needs
-
-mul-start-2 : tie.Need-mul-start-2
-mul-start-2 c =
-    let at-if1 = c .before .before .before .before in
+address-start-requires : tie.Need-address-start-requires
+address-start-requires c κs =
+    let at-if1 = c .before .before .before .before .before in
     let at-read-plan = at-if1 .before .before in
     let at-args = at-read-plan .before .before in
-    omega (
-      arith,
-      address-place (at-args .args .plan .now) (at-args .args .card) (at-read-plan .read-plan .result)
-          (at-read-plan .read-plan .ensures .0) (at-if1 .if1 .left) (omega (arith, c .before .before .if2 .left)),
-    )
+    let z = read-laid-out (at-args .args .plan .now) (at-args .args .card) (at-read-plan .read-plan .result)
+    (at-read-plan .read-plan .ensures .0) (at-if1 .if1 .left) in
+    (z .few-links, c .before .address-size .ensures .1, omega (arith, z .few, c .before .before .before .if2 .left))
 
-add-start-2 : tie.Need-add-start-2
-add-start-2 c =
-    let at-if1 = c .before .before .before .before in
-    let at-read-plan = at-if1 .before .before in
-    let at-args = at-read-plan .before .before in
-    omega (
-      arith,
-      address-place (at-args .args .plan .now) (at-args .args .card) (at-read-plan .read-plan .result)
-          (at-read-plan .read-plan .ensures .0) (at-if1 .if1 .left) (omega (arith, c .before .before .if2 .left)),
-    )
-
-add-end : tie.Need-add-end
-add-end c =
-    let at-if1 = c .before .before .before .before in
-    let at-read-plan = at-if1 .before .before in
-    let at-args = at-read-plan .before .before in
-    omega (
-      arith,
-      address-place (at-args .args .plan .now) (at-args .args .card) (at-read-plan .read-plan .result)
-          (at-read-plan .read-plan .ensures .0) (at-if1 .if1 .left) (omega (arith, c .before .before .if2 .left)),
-    )
+add-result : tie.Need-add-result
+add-result c = search needs
 
 sub-result-3 : tie.Need-sub-result-3
 sub-result-3 c = search needs
@@ -105,23 +75,27 @@ part-result-start-3 c = search needs
 
 part-result-end-3 : tie.Need-part-result-end-3
 part-result-end-3 c =
-    let at-if1 = c .before .before .before .before in
+    let at-if2 = c .before .before .before .before in
+    let at-if1 = at-if2 .before .before in
     let at-read-plan = at-if1 .before .before in
     let at-args = at-read-plan .before .before in
     omega (
       arith,
-      address-place (at-args .args .plan .now) (at-args .args .card) (at-read-plan .read-plan .result)
-          (at-read-plan .read-plan .ensures .0) (at-if1 .if1 .left) (omega (arith, c .before .before .if2 .left)),
+      address-ends (at-args .args .plan .now) (at-args .args .card) (at-read-plan .read-plan .result)
+          (at-read-plan .read-plan .ensures .0) (at-if1 .if1 .left) _ _ (omega (arith, at-if2 .if2 .left))
+          (c .before .before .address-size .ensures .0) (c .address-start .ensures .0),
     )
 
 returns-3 : tie.Need-returns-3
 returns-3 c =
-    let at-if2 = c .before .before .before in
+    let at-start = c .before in
+    let at-if2 = at-start .before .before .before .before in
     let at-if1 = at-if2 .before .before in
     let at-read-plan = at-if1 .before .before in
     let at-args = at-read-plan .before .before in
     address-handed (at-args .args .plan .now) (at-args .args .card) (at-read-plan .read-plan .result)
-    (at-read-plan .read-plan .ensures .0) (at-if1 .if1 .left) (omega (arith, at-if2 .if2 .left)) (at-args .args .plan .ptr) _
+    (at-read-plan .read-plan .ensures .0) (at-if1 .if1 .left) _ _ (omega (arith, at-if2 .if2 .left))
+    (at-start .before .before .address-size .ensures .0) (at-start .address-start .ensures .0) (at-args .args .plan .ptr) _
 
 pub card-address-spec : {M : Type 1} → statement M
 card-address-spec =
@@ -136,14 +110,11 @@ card-address-spec =
     part-result-start-2
     part-result-end-2
     returns-2
-    add-size
-    cast-size
-    cast-start
-    mul-start
-    add-start
-    mul-start-2
-    add-start-2
-    add-end
+    cast-address-size
+    address-size-requires
+    cast-address-start
+    address-start-requires
+    add-result
     sub-result-3
     part-result-start-3
     part-result-end-3

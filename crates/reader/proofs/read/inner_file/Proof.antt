@@ -1,15 +1,16 @@
 -- The two parts are appended to zeros. Assumes nothing.
 use mathlib.Core.Path.{ap}
-use Prim.Native.Nat.{ℕ}
+use Prim.Native.Nat.{ℕ, _+_, _*_}
 use native.Mathlib.Omega.{arith}
 use lib.ListN.{length, length-replicate}
+use Rattle.rack.specs.Limits.{most-links}
 use Rattle.reader.proofs.InnerFile.{inner-copied}
 use borrow.Author.Needs.{needs}
 use Rattle.reader.proofs.read.inner_file.Statement.{statement}
 use Rattle.reader.proofs.read.inner_file.Tie as tie
 
 copy-part-requires : tie.Need-copy-part-requires
-copy-part-requires c κs = let s = c .before .before .before in (omega (arith, s .pre .0), omega (arith, ap length (s .pre .2), length-replicate {A = ℕ} 8196 0))
+copy-part-requires c κs = let s = c .before .before .before in (omega (arith, s .pre .0), omega (arith, ap length (s .pre .2), length-replicate {A = ℕ} (4 + 4 * most-links) 0))
 
 copy-part-requires-2 : tie.Need-copy-part-requires-2
 copy-part-requires-2 c κs =
@@ -22,7 +23,7 @@ copy-part-requires-2 c κs =
         at-copy-part .copy-part .kept .1 .1 .1 .0,
         ap length
             (at-pre .pre .2),
-        length-replicate {A = ℕ} 8196 0,
+        length-replicate {A = ℕ} (4 + 4 * most-links) 0,
       ),
     )
 
