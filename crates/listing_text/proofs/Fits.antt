@@ -17,10 +17,10 @@ use Rattle.rack.proofs.WiringFile.{wiring-at-cards, wiring-at-count}
 use Rattle.text.specs.Decimals.{decimal}
 use Rattle.listing_text.specs.Listing.{cards-word, links-word, columns-word, card-word, refused-word, at-link, at-card, space, dash, line-end}
 use Rattle.listing_text.specs.Listing.{number-line, address-text, card-line, size-lines, rack-lines, rack-text}
-use Rattle.listing_text.specs.Listing.{carries-link, carried-text, refused-text, listing, lent-text}
+use Rattle.listing_text.specs.Listing.{names-link, place-text, refused-text, listing, lent-text}
 use Rattle.text.proofs.Digits.{digits-most, digits-few}
 use Rattle.listing_text.proofs.CardLines.{address-none, length-columns}
-use Rattle.listing_text.proofs.Refused.{carried-link, carried-card, carried-none}
+use Rattle.listing_text.proofs.Refused.{place-link, place-card, place-none}
 
 -- A NUMBER below a power of ten
 decimal-few : (d v : ℕ) → v < 10 ^ suc d → length (decimal v) ≤ suc d
@@ -65,23 +65,23 @@ rack-lines-few n m k rows hn hm hk =
     simp length-append
     (omega (arith, size-lines-few n m k hn hm hk, blocks-few n 265 (card-line k rows) (λ i l. card-line-few k rows i hk (omega arith))))
 
--- A REFUSAL: its number and what it carries are of ten digits at most
+-- A REFUSAL: its number and the place that it names are of ten digits at most
 decimal-most : (v : ℕ) → length (decimal v) ≤ 10
 unfolding decimal
 decimal-most v = digits-most 10 v
 
-carried-few : (number at : ℕ) → length (carried-text (refusal number at)) ≤ 16
+place-few : (number at : ℕ) → length (place-text (refusal number at)) ≤ 16
 unfolding at-link at-card
-carried-few number at =
-    by-bool (carries-link number)
-    (λ t. omega (arith, decimal-most at, ap length (carried-link number at (carries-link number) refl t)))
+place-few number at =
+    by-bool (names-link number)
+    (λ t. omega (arith, decimal-most at, ap length (place-link number at (names-link number) refl t)))
     (λ t. by-eq number 9
-    (λ e. omega (arith, decimal-most at, ap length (carried-card number at (carries-link number) refl t e)))
-    (λ n. omega (arith, ap length (carried-none number at (carries-link number) refl t n))))
+    (λ e. omega (arith, decimal-most at, ap length (place-card number at (names-link number) refl t e)))
+    (λ n. omega (arith, ap length (place-none number at (names-link number) refl t n))))
 
 refused-few : (f : Refusal) → length (refused-text f) ≤ 35
 unfolding refused-text refused-word line-end
-refused-few f = simp length-append (omega (arith, decimal-most (f .number), carried-few (f .number) (f .at)))
+refused-few f = simp length-append (omega (arith, decimal-most (f .number), place-few (f .number) (f .at)))
 
 -- A FILE
 pub record Sizes-in (w : Wiring) : Type 0 where

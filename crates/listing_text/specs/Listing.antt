@@ -71,15 +71,15 @@ rack-lines n m k rows = size-lines n m k ++ blocks n (card-line k rows)
 unfoldable pub rack-text : Wiring → List ℕ
 rack-text w = rack-lines (w .cards) (link-count w) (column-count w) (address w)
 
--- A REFUSAL: 6, 7, 8 and 10 carry a link, 9 a card
-unfoldable pub carries-link : (number : ℕ) → Bool
-carries-link x = eqb x 6 || eqb x 7 || eqb x 8 || eqb x 10
+-- A REFUSAL: 6, 7, 8 and 10 name a link, 9 a card
+unfoldable pub names-link : (number : ℕ) → Bool
+names-link x = eqb x 6 || eqb x 7 || eqb x 8 || eqb x 10
 
-unfoldable pub carried-text : Refusal → List ℕ
-carried-text f = cond (carries-link (f .number)) (at-link ++ decimal (f .at)) (cond (eqb (f .number) 9) (at-card ++ decimal (f .at)) [])
+unfoldable pub place-text : Refusal → List ℕ
+place-text f = cond (names-link (f .number)) (at-link ++ decimal (f .at)) (cond (eqb (f .number) 9) (at-card ++ decimal (f .at)) [])
 
 unfoldable pub refused-text : Refusal → List ℕ
-refused-text f = refused-word ++ decimal (f .number) ++ carried-text f ++ line-end
+refused-text f = refused-word ++ decimal (f .number) ++ place-text f ++ line-end
 
 unfoldable pub listing : List ℕ → List ℕ
 listing bs = cond (eqb (file-refusal bs .number) 0) (rack-text (file-wiring bs)) (refused-text (file-refusal bs))

@@ -9,7 +9,7 @@ ghost use Rattle.rack.specs.Refusals.{refusal};
 ghost use Rattle.planner.specs.Words.{word-bit};
 ghost use Rattle.text.specs.Decimals.{decimal};
 ghost use Rattle.listing_text.specs.Listing.{number-line, size-lines, column-digit, address-text, card-line, rack-lines};
-ghost use Rattle.listing_text.specs.Listing.{carries-link, carried-text, refused-text};
+ghost use Rattle.listing_text.specs.Listing.{names-link, place-text, refused-text};
 ghost use Rattle.text.specs.Putting.{Puts};
 use text::put::digit;
 use text::put::put_byte;
@@ -17,7 +17,7 @@ use text::put::put_bytes;
 use text::put::put_decimal;
 
 // Appends a word and a number.
-fn put_number(text: &mut [u8], at: usize, word: &[u8], v: u32) -> usize
+fn put_word_number(text: &mut [u8], at: usize, word: &[u8], v: u32) -> usize
     requires { ⌜ at + length (now word ++ decimal v) ≤ length (now text) ⌝ }
     ensures { λ r. ⌜ Puts at (now (text .entry)) (now (text .exit)) (now (word .entry) ++ decimal v) r ⌝ }
 {
@@ -30,7 +30,7 @@ fn put_number_line(text: &mut [u8], at: usize, word: &[u8], v: u32) -> usize
     requires { ⌜ at + length (number-line (now word) v) ≤ length (now text) ⌝ }
     ensures { λ r. ⌜ Puts at (now (text .entry)) (now (text .exit)) (number-line (now (word .entry)) v) r ⌝ }
 {
-    let end = put_number(text, at, word, v);
+    let end = put_word_number(text, at, word, v);
     put_byte(text, end, b'\n')
 }
 
@@ -81,7 +81,7 @@ fn put_card_line(text: &mut [u8], at: usize, words: &[u64], c: usize, k: usize) 
     requires { ⌜ (length (now words) ≡ lent-words) × (c < most-cards) × (k < 256) × (at + length (card-line k (word-bit (now words)) c) ≤ length (now text)) ⌝ }
     ensures { λ r. ⌜ Puts at (now (text .entry)) (now (text .exit)) (card-line k (word-bit (now (words .entry))) c) r ⌝ }
 {
-    let number_end = put_number(text, at, b"card ", c as u32);
+    let number_end = put_word_number(text, at, b"card ", c as u32);
     let address = put_byte(text, number_end, b' ');
     let address_end = put_address(text, address, words, c, k);
     put_byte(text, address_end, b'\n')
@@ -110,9 +110,9 @@ pub fn put_rack(text: &mut [u8], words: &[u64], n: usize, m: usize, k: usize) ->
     put_card_lines(text, cards, words, n, k)
 }
 
-// A refusal of this number carries a link.
-fn carries_link(number: u32) -> bool
-    ensures { λ r. ⌜ r ≡ carries-link number ⌝ }
+// A refusal of this number names a link.
+fn names_link(number: u32) -> bool
+    ensures { λ r. ⌜ r ≡ names-link number ⌝ }
 {
     if number == 6 {
         return true;
@@ -126,16 +126,16 @@ fn carries_link(number: u32) -> bool
     number == 10
 }
 
-// Appends what a refusal carries: a link, a card or nothing.
-fn put_carried(text: &mut [u8], at: usize, number: u32, place: u32) -> usize
-    requires { ⌜ at + length (carried-text (refusal number place)) ≤ length (now text) ⌝ }
-    ensures { λ r. ⌜ Puts at (now (text .entry)) (now (text .exit)) (carried-text (refusal number place)) r ⌝ }
+// Appends the place that a refusal names: a link, a card or nothing.
+fn put_place(text: &mut [u8], at: usize, number: u32, place: u32) -> usize
+    requires { ⌜ at + length (place-text (refusal number place)) ≤ length (now text) ⌝ }
+    ensures { λ r. ⌜ Puts at (now (text .entry)) (now (text .exit)) (place-text (refusal number place)) r ⌝ }
 {
-    if carries_link(number) {
-        return put_number(text, at, b" link ", place);
+    if names_link(number) {
+        return put_word_number(text, at, b" link ", place);
     }
     if number == 9 {
-        return put_number(text, at, b" card ", place);
+        return put_word_number(text, at, b" card ", place);
     }
     at
 }
@@ -145,7 +145,7 @@ pub fn put_refused(text: &mut [u8], number: u32, place: u32) -> usize
     requires { ⌜ length (refused-text (refusal number place)) ≤ length (now text) ⌝ }
     ensures { λ r. ⌜ Puts 0 (now (text .entry)) (now (text .exit)) (refused-text (refusal number place)) r ⌝ }
 {
-    let number_end = put_number(text, 0, b"refused ", number);
-    let carried_end = put_carried(text, number_end, number, place);
-    put_byte(text, carried_end, b'\n')
+    let number_end = put_word_number(text, 0, b"refused ", number);
+    let place_end = put_place(text, number_end, number, place);
+    put_byte(text, place_end, b'\n')
 }

@@ -16,7 +16,7 @@ use Rattle.reader.specs.Plan.{layout-holds, content-holds, plan-refusal}
 use Rattle.forwarder.specs.Forwarding.{leads-nearer, step, walk-from, walk}
 use Rattle.text.specs.Decimals.{digits, decimal}
 use Rattle.listing_text.specs.Listing.{cards-word, links-word, columns-word, card-word, refused-word, at-link, at-card, space, dash, line-end}
-use Rattle.listing_text.specs.Listing.{number-line, address-text, card-line, size-lines, rack-lines, rack-text, carries-link, carried-text, refused-text, listing}
+use Rattle.listing_text.specs.Listing.{number-line, address-text, card-line, size-lines, rack-lines, rack-text, names-link, place-text, refused-text, listing}
 use Rattle.promises.specs.Cases.{Case, address-row, claim-holds, case-holds, case, ring-of-four, cases}
 
 all-hold : all case-holds cases ≡ true
@@ -26,8 +26,8 @@ unfolding cases case ring-of-four case-holds claim-holds address-row number-bit 
     embedding-refusal rack-refusal wiring-refusal number-at wiring-at sizes-fault form-refusal file-refusal two-bytes
     end-bytes file-bytes bits-value address-size address-bytes plan-bytes layout-holds content-holds plan-refusal plan-bit
     plan-hamming leads-nearer step walk-from walk digits decimal cards-word links-word columns-word card-word refused-word
-    at-link at-card space dash line-end number-line address-text card-line size-lines rack-lines rack-text carries-link
-    carried-text refused-text listing
+    at-link at-card space dash line-end number-line address-text card-line size-lines rack-lines rack-text names-link
+    place-text refused-text listing
 all-hold = refl
 
 pub each-holds : (k : Case) → In k cases → case-holds k ≡ true

@@ -8,15 +8,15 @@ use borrow.Author.Needs.{needs}
 use Rattle.listing_text.proofs.lines.put_card_line.Statement.{statement}
 use Rattle.listing_text.proofs.lines.put_card_line.Tie as tie
 
-slice-aggregate-put-number : tie.Need-slice-aggregate-put-number
-slice-aggregate-put-number c = search needs
+slice-aggregate-put-word-number : tie.Need-slice-aggregate-put-word-number
+slice-aggregate-put-word-number c = search needs
 
-cast-put-number : tie.Need-cast-put-number
-cast-put-number c = search needs
+cast-put-word-number : tie.Need-cast-put-word-number
+cast-put-word-number c = search needs
 
-put-number-requires : tie.Need-put-number-requires
+put-word-number-requires : tie.Need-put-word-number-requires
 unfolding card-word
-put-number-requires c κs =
+put-word-number-requires c κs =
     let s = c .before .before .before .before in
     card-line-room (s .args .at) _ (s .args .k) (word-bit (s .args .words .now)) (s .args .c) (s .pre .3) .number
 
@@ -25,7 +25,7 @@ unfolding card-word space
 put-byte-requires c κs =
     let at-number = c .before .before .before in
     let s = at-number .before .before .before .before .before in
-    room-byte _ _ _ (at-number .put-number .ensures) (at-number .put-number .kept .0)
+    room-byte _ _ _ (at-number .put-word-number .ensures) (at-number .put-word-number .kept .0)
     (card-line-room (s .args .at) _ (s .args .k) (word-bit (s .args .words .now)) (s .args .c) (s .pre .3) .spaced)
 
 put-address-requires : tie.Need-put-address-requires
@@ -37,8 +37,8 @@ put-address-requires c κs =
       s .pre .0,
       s .pre .1,
       s .pre .2,
-      room-then _ _ _ (puts-then (at-number .put-number .ensures) (at-space .put-byte .ensures))
-          (at-space .put-byte .kept .0 ∙ at-number .put-number .kept .0)
+      room-then _ _ _ (puts-then (at-number .put-word-number .ensures) (at-space .put-byte .ensures))
+          (at-space .put-byte .kept .0 ∙ at-number .put-word-number .kept .0)
           (card-line-room (s .args .at) _ (s .args .k) (word-bit (s .args .words .now)) (s .args .c) (s .pre .3) .address),
     )
 
@@ -49,8 +49,8 @@ put-byte-requires-2 c κs =
     let at-space = at-address .before .before .before .before in
     let at-number = at-space .before .before .before .before in
     let s = at-number .before .before .before .before .before in
-    room-byte _ _ _ (puts-then (puts-then (at-number .put-number .ensures) (at-space .put-byte .ensures)) (at-address .put-address .ensures))
-    (at-address .put-address .kept .0 ∙ at-space .put-byte .kept .0 ∙ at-number .put-number .kept .0) (s .pre .3)
+    room-byte _ _ _ (puts-then (puts-then (at-number .put-word-number .ensures) (at-space .put-byte .ensures)) (at-address .put-address .ensures))
+    (at-address .put-address .kept .0 ∙ at-space .put-byte .kept .0 ∙ at-number .put-word-number .kept .0) (s .pre .3)
 
 same-length : tie.Need-same-length
 same-length c = search needs
@@ -61,16 +61,16 @@ returns c =
     let at-address = c .before .before .before .before .before .before in
     let at-space = at-address .before .before .before .before in
     let at-number = at-space .before .before .before .before in
-    puts-then (puts-then (puts-then (at-number .put-number .ensures) (at-space .put-byte .ensures)) (at-address .put-address .ensures))
+    puts-then (puts-then (puts-then (at-number .put-word-number .ensures) (at-space .put-byte .ensures)) (at-address .put-address .ensures))
     (c .before .before .put-byte2 .ensures)
 
 pub put-card-line-spec : {M : Type 1} → statement M
 put-card-line-spec =
     tie.close
     (tie.spec
-    slice-aggregate-put-number
-    cast-put-number
-    put-number-requires
+    slice-aggregate-put-word-number
+    cast-put-word-number
+    put-word-number-requires
     put-byte-requires
     put-address-requires
     put-byte-requires-2

@@ -7,9 +7,9 @@ use borrow.Author.Needs.{needs}
 use Rattle.listing_text.proofs.lines.put_number_line.Statement.{statement}
 use Rattle.listing_text.proofs.lines.put_number_line.Tie as tie
 
-put-number-requires : tie.Need-put-number-requires
+put-word-number-requires : tie.Need-put-word-number-requires
 unfolding number-line
-put-number-requires c κs =
+put-word-number-requires c κs =
     let s = c .before .before .before in
     room-first _ _ (s .args .word .now ++ decimal (s .args .v)) line-end (s .pre)
 
@@ -17,7 +17,7 @@ put-byte-requires : tie.Need-put-byte-requires
 unfolding number-line line-end
 put-byte-requires c κs =
     let at-number = c .before .before .before in
-    room-byte _ _ _ (at-number .put-number .ensures) (at-number .put-number .kept .0) (at-number .before .before .before .before .pre)
+    room-byte _ _ _ (at-number .put-word-number .ensures) (at-number .put-word-number .kept .0) (at-number .before .before .before .before .pre)
 
 same-length : tie.Need-same-length
 same-length c = search needs
@@ -25,8 +25,8 @@ same-length c = search needs
 returns : tie.Need-returns
 unfolding number-line line-end
 returns c =
-    puts-then (c .before .before .before .before .before .before .put-number .ensures) (c .before .before .put-byte .ensures)
+    puts-then (c .before .before .before .before .before .before .put-word-number .ensures) (c .before .before .put-byte .ensures)
 
 pub put-number-line-spec : {M : Type 1} → statement M
 put-number-line-spec =
-    tie.close (tie.spec put-number-requires put-byte-requires same-length returns)
+    tie.close (tie.spec put-word-number-requires put-byte-requires same-length returns)

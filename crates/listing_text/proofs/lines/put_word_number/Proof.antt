@@ -2,8 +2,8 @@
 use Rattle.text.specs.Decimals.{decimal}
 use Rattle.text.proofs.Putting.{puts-then, room-first, room-then}
 use borrow.Author.Needs.{needs}
-use Rattle.listing_text.proofs.lines.put_number.Statement.{statement}
-use Rattle.listing_text.proofs.lines.put_number.Tie as tie
+use Rattle.listing_text.proofs.lines.put_word_number.Statement.{statement}
+use Rattle.listing_text.proofs.lines.put_word_number.Tie as tie
 
 put-bytes-requires : tie.Need-put-bytes-requires
 put-bytes-requires c κs = let s = c .before .before .before in room-first _ _ (s .args .word .now) (decimal (s .args .v)) (s .pre)
@@ -19,5 +19,5 @@ same-length c = search needs
 returns : tie.Need-returns
 returns c = puts-then (c .before .before .before .before .before .before .put-bytes .ensures) (c .before .before .put-decimal .ensures)
 
-pub put-number-spec : {M : Type 1} → statement M
-put-number-spec = tie.close (tie.spec put-bytes-requires put-decimal-requires same-length returns)
+pub put-word-number-spec : {M : Type 1} → statement M
+put-word-number-spec = tie.close (tie.spec put-bytes-requires put-decimal-requires same-length returns)
