@@ -1,87 +1,100 @@
--- Document 01's cases P1 to P10 and a few more as rows of one table, and what a row claims. Assumes nothing: these are definitions.
-use mathlib.Core.Bool.{Bool, _&&_}
-use mathlib.Core.List.{List, [], _∷_}
-use Prim.Native.Nat.{ℕ, _+_, _*_}
-use Prim.Native.String.{String}
-use lib.Dec.{eqb}
-use lib.ListN.{length, take, set}
-use Rattle.rack.specs.Lists.{one, all, tabulate, same}
-use Rattle.rack.specs.Wiring.{Link, Wiring, link, wiring}
-use Rattle.rack.specs.WiringFile.{file-bytes, file-wiring, file-refusal}
-use Rattle.rack.specs.Columns.{column-count, address}
+-- The table of cases: document 01's P1 to P10, and a row for each rule that these do not show. Assumes nothing: these are definitions.
+use mathlib.Core.List.{List, [], _∷_, _++_}
+use Prim.Native.Nat.{ℕ}
+use lib.ListN.{take, set}
+use Rattle.rack.specs.Wiring.{Link, link, wiring}
 use Rattle.planner.specs.PlanBytes.{plan-bytes}
-use Rattle.reader.specs.Plan.{plan-refusal}
-use Rattle.forwarder.specs.Forwarding.{step, walk}
-use Rattle.text.specs.Codes.{codes}
-use Rattle.listing_text.specs.Listing.{listing}
-
-pub data Claim : Type 0 where
-  -- the wiring file is refused with this number and this link or card; 0 0 for accepted
-  refused : (number at : ℕ) → Claim
-  -- the addresses, card by card, column 0 first
-  addresses : List (List ℕ) → Claim
-  -- the plan has so many bytes; reading it gives this number
-  plan-size : ℕ → Claim
-  read-as : (number : ℕ) → Claim
-  -- on the plan, the walk from a to b arrives with these cards met; the step from a to b is stuck
-  walks : (a b : ℕ) → (met : List ℕ) → Claim
-  stuck : (a b : ℕ) → Claim
-  -- the listing
-  lists : String → Claim
-
--- a wiring, a change of its plan's bytes, and what is claimed
-pub record Case : Type 0 where
-  pub cards : ℕ
-  pub links : List Link
-  pub change : List ℕ → List ℕ
-  pub claims : List Claim
-
-unfoldable pub address-row : Wiring → (c : ℕ) → List ℕ
-address-row w c = tabulate (column-count w) (λ j. one (address w c j))
-
-unfoldable pub claim-holds : (file plan : List ℕ) → Claim → Bool
-claim-holds bs ps (refused n i) = eqb (file-refusal bs .number) n && eqb (file-refusal bs .at) i
-claim-holds bs ps (addresses rows) = same (same eqb) (tabulate (file-wiring bs .cards) (address-row (file-wiring bs))) rows
-claim-holds bs ps (plan-size n) = eqb (length ps) n
-claim-holds bs ps (read-as n) = eqb (plan-refusal ps) n
-claim-holds bs ps (walks a b met) = eqb (walk ps a b .arrived) 1 && same eqb (walk ps a b .met) met
-claim-holds bs ps (stuck a b) = eqb (step ps a b .outcome) 0
-claim-holds bs ps (lists text) = same eqb (listing bs) (codes text)
-
-unfoldable pub case-holds : Case → Bool
-case-holds k =
-    let w = wiring (k .cards) (k .links) in
-    let bs = file-bytes w in
-    let ps = k .change (plan-bytes w) in
-    all (claim-holds bs ps) (k .claims)
-
-unfoldable pub case : (cards : ℕ) → List Link → List Claim → Case
-case n ls cs = record { cards = n; links = ls; change = λ ps. ps; claims = cs }
+use Rattle.promises.specs.Claims.{hex, Case, rack, file-of, plan-of}
+use Rattle.promises.specs.Claims.{file-is, refused, addresses, lists, plan-size, plan-is, read-as, walks, stuck}
 
 unfoldable pub ring-of-four : List Link
 ring-of-four = link 0 1 ∷ link 1 2 ∷ link 2 3 ∷ link 3 0 ∷ []
 
--- P1 to P10, in their order; in P10 the address byte of card 2 is made 0. Then 3, 6, 7, and 12 of a plan without its last byte
-unfoldable pub cases : List Case
-cases =
-    case 1 [] (refused 0 0 ∷ addresses ([] ∷ []) ∷ plan-size 6 ∷ lists "cards 1\nlinks 0\ncolumns 0\ncard 0 -\n" ∷ [])
-    ∷ case 2 [] (refused 9 1 ∷ lists "refused 9 card 1\n" ∷ [])
-    ∷ case 2 (link 0 1 ∷ link 1 0 ∷ []) (refused 8 1 ∷ [])
-    ∷ case 3 (link 0 1 ∷ link 1 2 ∷ []) (refused 0 0 ∷ addresses ((0 ∷ 0 ∷ []) ∷ (1 ∷ 0 ∷ []) ∷ (1 ∷ 1 ∷ []) ∷ []) ∷ [])
-    ∷ case 4 ring-of-four
-    (refused 0 0 ∷ addresses ((0 ∷ 0 ∷ []) ∷ (1 ∷ 0 ∷ []) ∷ (1 ∷ 1 ∷ []) ∷ (0 ∷ 1 ∷ []) ∷ []) ∷ plan-size 26 ∷ read-as 0
+-- P5's plan; the addresses of its cards are bytes 22 to 25
+unfoldable pub ring-plan : List ℕ
+ring-plan = plan-bytes (wiring 4 ring-of-four)
+
+unfoldable pub paper-cases : List Case
+paper-cases =
+    rack "P1: one card" 1 []
+    (refused 0 0 ∷ addresses ("" ∷ []) ∷ plan-size 6 ∷ lists "cards 1\nlinks 0\ncolumns 0\ncard 0 -\n" ∷ [])
+    ∷ rack "P2: two cards apart" 2 [] (refused 9 1 ∷ lists "refused 9 card 1\n" ∷ [])
+    ∷ rack "P3: a link doubled" 2 (link 0 1 ∷ link 1 0 ∷ []) (refused 8 1 ∷ lists "refused 8 link 1\n" ∷ [])
+    ∷ rack "P4: three in line" 3 (link 0 1 ∷ link 1 2 ∷ []) (refused 0 0 ∷ addresses ("00" ∷ "10" ∷ "11" ∷ []) ∷ [])
+    ∷ rack "P5: the ring of four" 4 ring-of-four
+    (refused 0 0 ∷ addresses ("00" ∷ "10" ∷ "11" ∷ "01" ∷ [])
+    ∷ file-is (hex "04 00 04 00 00 00 01 00 02 00 03 00 01 00 02 00 03 00 00 00")
+    ∷ plan-is (hex "04 00 04 00 02 00" ++ hex "00 00 01 00 02 00 03 00 01 00 02 00 03 00 00 00" ++ hex "00 01 03 02") ∷ plan-size 26
+    ∷ read-as 0
     ∷ lists "cards 4\nlinks 4\ncolumns 2\ncard 0 00\ncard 1 10\ncard 2 11\ncard 3 01\n" ∷ [])
-    ∷ case 6 (link 0 1 ∷ link 1 2 ∷ link 2 3 ∷ link 3 4 ∷ link 4 5 ∷ link 5 0 ∷ [])
-    (refused 0 0
-    ∷ addresses
-    ((0 ∷ 0 ∷ 0 ∷ []) ∷ (1 ∷ 0 ∷ 0 ∷ []) ∷ (1 ∷ 1 ∷ 0 ∷ []) ∷ (1 ∷ 1 ∷ 1 ∷ []) ∷ (0 ∷ 1 ∷ 1 ∷ []) ∷ (0 ∷ 0 ∷ 1 ∷ []) ∷ [])
-    ∷ [])
-    ∷ case 3 (link 0 1 ∷ link 1 2 ∷ link 2 0 ∷ []) (refused 10 1 ∷ lists "refused 10 link 1\n" ∷ [])
-    ∷ case 5 (link 0 2 ∷ link 0 3 ∷ link 0 4 ∷ link 1 2 ∷ link 1 3 ∷ link 1 4 ∷ []) (refused 11 0 ∷ lists "refused 11\n" ∷ [])
-    ∷ case 4 ring-of-four (walks 0 2 (0 ∷ 1 ∷ 2 ∷ []) ∷ [])
-    ∷ record { cards = 4; links = ring-of-four; change = λ ps. set ps (6 + 4 * 4 + 2) 0; claims = read-as 13 ∷ stuck 0 2 ∷ [] }
-    ∷ case 0 [] (refused 3 0 ∷ [])
-    ∷ case 2 (link 0 1 ∷ link 0 2 ∷ []) (refused 6 1 ∷ [])
-    ∷ case 2 (link 0 1 ∷ link 1 1 ∷ []) (refused 7 1 ∷ [])
-    ∷ record { cards = 4; links = ring-of-four; change = take 25; claims = read-as 12 ∷ [] }
+    ∷ rack "P6: the ring of six" 6 (link 0 1 ∷ link 1 2 ∷ link 2 3 ∷ link 3 4 ∷ link 4 5 ∷ link 5 0 ∷ [])
+    (refused 0 0 ∷ addresses ("000" ∷ "100" ∷ "110" ∷ "111" ∷ "011" ∷ "001" ∷ []) ∷ [])
+    ∷ rack "P7: the triangle" 3 (link 0 1 ∷ link 1 2 ∷ link 2 0 ∷ []) (refused 10 1 ∷ lists "refused 10 link 1\n" ∷ [])
+    ∷ rack "P8: two by three" 5 (link 0 2 ∷ link 0 3 ∷ link 0 4 ∷ link 1 2 ∷ link 1 3 ∷ link 1 4 ∷ [])
+    (refused 11 0 ∷ lists "refused 11\n" ∷ [])
+    ∷ rack "P9: a walk on P5" 4 ring-of-four (walks 0 2 2 (0 ∷ 1 ∷ 2 ∷ []) ∷ [])
+    ∷ plan-of "P10: P5's plan with card 2's address made 0" (set ring-plan 24 0) (read-as 13 ∷ stuck 0 2 ∷ [])
     ∷ []
+
+-- 2 to 5, the first that applies; numbers over 255 have a high byte
+unfoldable pub size-cases : List Case
+size-cases =
+    file-of "three bytes: 2 before 3" (hex "00 00 00") (refused 2 0 ∷ lists "refused 2\n" ∷ [])
+    ∷ file-of "no card and 2,049 links: 3 before 4" (hex "00 00 01 08") (refused 3 0 ∷ lists "refused 3\n" ∷ [])
+    ∷ rack "257 cards" 257 [] (file-is (hex "01 01 00 00") ∷ refused 3 0 ∷ [])
+    ∷ file-of "256 cards and 2,049 links in 4 bytes: 4 before 5" (hex "00 01 01 08") (refused 4 0 ∷ lists "refused 4\n" ∷ [])
+    ∷ file-of "256 cards and 2,048 links in 4 bytes" (hex "00 01 00 08") (refused 5 0 ∷ lists "refused 5\n" ∷ [])
+    ∷ file-of "a byte short, and an end that is no card: 5 before 6" (hex "02 00 01 00 05 00 01") (refused 5 0 ∷ [])
+    ∷ file-of "a byte too many" (hex "01 00 00 00 00") (refused 5 0 ∷ [])
+    ∷ []
+
+-- 6 to 8, the three tests of a link before the next link; the lowest link in fault
+unfoldable pub link-cases : List Case
+link-cases =
+    rack "both ends are card 2 of two: 6 before 7" 2 (link 2 2 ∷ []) (refused 6 0 ∷ lists "refused 6 link 0\n" ∷ [])
+    ∷ rack "card 256 of 256" 256 (link 0 256 ∷ []) (file-is (hex "00 01 01 00 00 00 00 01") ∷ refused 6 0 ∷ [])
+    ∷ rack "a first end, then a second: the lowest link" 2 (link 0 1 ∷ link 2 0 ∷ link 0 2 ∷ []) (refused 6 1 ∷ [])
+    ∷ rack "7 of a link before 6 of the next" 3 (link 0 1 ∷ link 1 1 ∷ link 0 3 ∷ []) (refused 7 1 ∷ lists "refused 7 link 1\n" ∷ [])
+    ∷ rack "8 of a link before 7 and 6 of the next" 3 (link 0 1 ∷ link 0 1 ∷ link 1 1 ∷ link 0 3 ∷ []) (refused 8 1 ∷ [])
+    ∷ []
+
+-- 9 to 11, each with the lowest card or link
+unfoldable pub rack-cases : List Case
+rack-cases =
+    rack "cards 2, 3 and 4 apart: 9 with the lowest" 5 (link 0 1 ∷ link 2 3 ∷ link 3 4 ∷ []) (refused 9 2 ∷ [])
+    ∷ rack "a triangle, and card 3 apart: 9 before 10" 4 (link 0 1 ∷ link 1 2 ∷ link 2 0 ∷ []) (refused 9 3 ∷ [])
+    ∷ rack "links 3, 4 and 5 level: 10 with the lowest" 4 (link 0 1 ∷ link 0 2 ∷ link 0 3 ∷ link 2 3 ∷ link 1 3 ∷ link 1 2 ∷ [])
+    (refused 10 3 ∷ [])
+    ∷ rack "the ring of four from link 1-2 on: columns by their lowest link" 4 (link 1 2 ∷ link 0 1 ∷ link 2 3 ∷ link 3 0 ∷ [])
+    (refused 0 0 ∷ addresses ("00" ∷ "01" ∷ "11" ∷ "10" ∷ []) ∷ [])
+    ∷ rack "a star of ten: nine columns in two bytes" 10
+    (link 0 1 ∷ link 0 2 ∷ link 0 3 ∷ link 0 4 ∷ link 0 5 ∷ link 0 6 ∷ link 0 7 ∷ link 0 8 ∷ link 0 9 ∷ [])
+    (refused 0 0
+    ∷ plan-is
+    (hex "0a 00 09 00 09 00" ++ hex "00 00 00 00 00 00 00 00 00 00 00 00 00 00 00 00 00 00"
+    ++ hex "01 00 02 00 03 00 04 00 05 00 06 00 07 00 08 00 09 00"
+    ++ hex "00 00 01 00 02 00 04 00 08 00 10 00 20 00 40 00 80 00 00 01")
+    ∷ read-as 0 ∷ [])
+    ∷ rack "one column" 2 (link 0 1 ∷ [])
+    (refused 0 0 ∷ plan-is (hex "02 00 01 00 01 00 00 00 01 00 00 01") ∷ lists "cards 2\nlinks 1\ncolumns 1\ncard 0 0\ncard 1 1\n" ∷ [])
+    ∷ []
+
+-- plans that the planner does not write: 12, 13, and the steps on them
+unfoldable pub plan-cases : List Case
+plan-cases =
+    plan-of "P5's plan without its last byte" (take 25 ring-plan) (read-as 12 ∷ [])
+    ∷ plan-of "five bytes" (hex "01 00 00 00 00") (read-as 12 ∷ [])
+    ∷ plan-of "no card" (hex "00 00 00 00 00 00") (read-as 12 ∷ [])
+    ∷ plan-of "257 cards without a column" (hex "01 01 00 00 00 00") (read-as 12 ∷ [])
+    ∷ plan-of "P5's plan with a spare bit: 13, and it does not count" (set ring-plan 23 5) (read-as 13 ∷ walks 0 2 2 (0 ∷ 1 ∷ 2 ∷ []) ∷ [])
+    ∷ plan-of "nine columns: the last is bit 0 of the second byte" (hex "02 00 01 00 09 00 00 00 01 00 00 00 00 01")
+    (read-as 13 ∷ walks 0 1 1 (0 ∷ 1 ∷ []) ∷ [])
+    ∷ plan-of "nine columns: the other bits of the second byte are spare" (hex "02 00 01 00 09 00 00 00 01 00 00 00 00 fe")
+    (read-as 13 ∷ stuck 0 1 ∷ [])
+    ∷ plan-of "the first link that leads nearer, not the nearest card" (set ring-plan 25 3) (walks 0 2 2 (0 ∷ 1 ∷ 2 ∷ []) ∷ [])
+    ∷ plan-of "an end that is no card is passed over" (set ring-plan 8 9) (walks 2 0 2 (2 ∷ 3 ∷ 0 ∷ []) ∷ [])
+    ∷ plan-of "a walk from a card to itself" ring-plan (walks 1 1 0 (1 ∷ []) ∷ [])
+    ∷ []
+
+unfoldable pub cases : List Case
+cases = paper-cases ++ size-cases ++ link-cases ++ rack-cases ++ plan-cases

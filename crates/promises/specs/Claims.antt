@@ -1,0 +1,86 @@
+-- What a row of the table of cases says: a wiring file, a plan file, and claims of the two. Assumes nothing: these are definitions.
+use mathlib.Core.Bool.{Bool, _&&_, not, cond}
+use mathlib.Core.List.{List, [], _∷_, _++_, map}
+use Prim.Native.Nat.{ℕ, _+_, _*_, _-_}
+use Prim.Native.String.{String}
+use lib.Dec.{ltb, eqb}
+use lib.ListN.{length}
+use Rattle.rack.specs.Lists.{all, filter, tabulate, same}
+use Rattle.rack.specs.Wiring.{Link, wiring}
+use Rattle.rack.specs.WiringFile.{file-bytes, file-wiring, file-refusal}
+use Rattle.rack.specs.Columns.{column-count, address}
+use Rattle.planner.specs.PlanBytes.{plan-bytes}
+use Rattle.reader.specs.Plan.{plan-refusal}
+use Rattle.forwarder.specs.Forwarding.{step, walk}
+use Rattle.forwarder.specs.Calls.{walk-hops}
+use Rattle.text.specs.Codes.{codes}
+use Rattle.listing_text.specs.Listing.{column-digit, listing}
+
+-- BYTES in hexadecimal, as document 01 writes them: "04 00 0a"
+unfoldable pub hex-digit : (code : ℕ) → ℕ
+hex-digit c = cond (ltb c 97) (c - 48) (c - 87)
+
+unfoldable pub hex-bytes : List ℕ → List ℕ
+hex-bytes [] = []
+hex-bytes (x ∷ []) = []
+hex-bytes (x ∷ y ∷ []) = (16 * hex-digit x + hex-digit y) ∷ []
+hex-bytes (x ∷ y ∷ _ ∷ rest) = (16 * hex-digit x + hex-digit y) ∷ hex-bytes rest
+
+unfoldable pub hex : String → List ℕ
+hex s = hex-bytes (codes s)
+
+-- CLAIMS
+pub data Claim : Type 0 where
+  -- the wiring file has these bytes
+  file-is : List ℕ → Claim
+  -- it is refused with this number and this link or card; 0 0 for accepted
+  refused : (number at : ℕ) → Claim
+  -- its addresses, card by card, column 0 first
+  addresses : List String → Claim
+  -- its listing
+  lists : String → Claim
+  -- the plan has so many bytes; they are these; reading it gives this number
+  plan-size : ℕ → Claim
+  plan-is : List ℕ → Claim
+  read-as : (number : ℕ) → Claim
+  -- on the plan, the walk from a to b arrives after so many hops with these cards met; the step from a to b is stuck
+  walks : (a b hops : ℕ) → (met : List ℕ) → Claim
+  stuck : (a b : ℕ) → Claim
+
+unfoldable pub claim-holds : (file plan : List ℕ) → Claim → Bool
+claim-holds bs ps (file-is xs) = same eqb bs xs
+claim-holds bs ps (refused n i) = eqb (file-refusal bs .number) n && eqb (file-refusal bs .at) i
+claim-holds bs ps (addresses rows) =
+    let w = file-wiring bs in
+    same (same eqb) (tabulate (w .cards) (λ c. tabulate (column-count w) (column-digit (address w c)))) (map codes rows)
+claim-holds bs ps (lists text) = same eqb (listing bs) (codes text)
+claim-holds bs ps (plan-size n) = eqb (length ps) n
+claim-holds bs ps (plan-is xs) = same eqb ps xs
+claim-holds bs ps (read-as n) = eqb (plan-refusal ps) n
+claim-holds bs ps (walks a b hops met) =
+    let v = walk ps a b in
+    eqb (v .arrived) 1 && eqb (walk-hops v) hops && same eqb (v .met) met
+claim-holds bs ps (stuck a b) = eqb (step ps a b .outcome) 0
+
+-- ROWS: a name, a wiring file, a plan file, and claims of the two
+pub data Case : Type 0 where
+  case : (name : String) → (file plan : List ℕ) → List Claim → Case
+
+-- a rack, with its wiring file and its plan
+unfoldable pub rack : (name : String) → (cards : ℕ) → List Link → List Claim → Case
+rack s n ls cs = case s (file-bytes (wiring n ls)) (plan-bytes (wiring n ls)) cs
+
+-- bytes as a wiring file, and as a plan file
+unfoldable pub file-of : (name : String) → List ℕ → List Claim → Case
+file-of s bs cs = case s bs [] cs
+
+unfoldable pub plan-of : (name : String) → List ℕ → List Claim → Case
+plan-of s ps cs = case s [] ps cs
+
+unfoldable pub case-holds : Case → Bool
+case-holds (case s bs ps cs) = all (claim-holds bs ps) cs
+
+-- the claims that do not hold, each behind its row's name
+unfoldable pub failing : List Case → List (String × Claim)
+failing [] = []
+failing (case s bs ps cs ∷ ks) = map (λ c. (s, c)) (filter (λ c. not (claim-holds bs ps c)) cs) ++ failing ks
