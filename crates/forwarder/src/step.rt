@@ -15,6 +15,7 @@ use rack::bytes::second_end;
 use rack::limits::MOST_CARDS;
 use rack::ones::ones_table;
 use reader::layout::Sizes;
+use reader::layout::no_sizes;
 use reader::layout::plan_layout;
 use reader::places::plan_hamming;
 
@@ -133,20 +134,10 @@ pub fn frame_sizes(plan: &[u8], from: u32, goal: u32) -> Sizes
         return sizes;
     }
     if sizes.cards <= from {
-        return Sizes {
-            number: 14,
-            cards: 0,
-            links: 0,
-            columns: 0,
-        };
+        return no_sizes(14);
     }
     if sizes.cards <= goal {
-        return Sizes {
-            number: 14,
-            cards: 0,
-            links: 0,
-            columns: 0,
-        };
+        return no_sizes(14);
     }
     sizes
 }
