@@ -21,9 +21,9 @@ module _ (ps : List ℕ) (a b : ℕ) (met rec : List ℕ) where
   unfolding c-walk-refusal
   no-met-room h = record { answer = rw (ne-eqb (length met) lent-met-bytes h) refl; met-left = refl; record-left = refl }
 
-  pub no-record-room : length rec ≢ lent-record → C-walk-says ps a b 1 met met rec rec
+  pub no-walk-record : length rec ≢ lent-record → C-walk-says ps a b 1 met met rec rec
   unfolding c-walk-refusal
-  no-record-room h =
+  no-walk-record h =
       record { answer = rw (ne-eqb (length rec) lent-record h, and-false (eqb (length met) lent-met-bytes)) refl; met-left = refl; record-left = refl }
 
   -- THE WALK of a frame, with the record's counts

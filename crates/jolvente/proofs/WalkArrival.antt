@@ -146,7 +146,7 @@ module _ (ps : List ℕ) (a b r : ℕ) (met met-now rec rec-now : List ℕ) (s :
   pub full : C-frame ps a b met rec → (Can-take (counts-in rec) (hops (plan-wiring ps) a b) → ⊥) → C-full r met met-now rec rec-now
   full f never = c-full ps a b r met met-now rec rec-now s f (replicate lent-met 0) (length-replicate {A = ℕ} lent-met 0) never
 
-  pub with-arrival : C-walk-says ps a b r met met-now rec rec-now
+  pub with-c-arrival : C-walk-says ps a b r met met-now rec rec-now
       × ((C-frame ps a b met rec → Can-take (counts-in rec) (hops (plan-wiring ps) a b) → Arrived ps a b (counts-in rec) (walked-in r rec-now) (cards-in met-now))
       × (C-frame ps a b met rec → (Can-take (counts-in rec) (hops (plan-wiring ps) a b) → ⊥) → C-full r met met-now rec rec-now))
-  with-arrival = (s, (arrives, full))
+  with-c-arrival = (s, (arrives, full))

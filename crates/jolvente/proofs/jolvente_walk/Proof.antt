@@ -1,8 +1,8 @@
 -- 1 comes first, and a refused frame leaves all as it was; else the cards met and the record are written. Demand 3 follows. Assumes nothing.
 use mathlib.Core.Path.{refl}
 use native.Mathlib.Omega.{arith}
-use Rattle.jolvente.proofs.WalkArrival.{with-arrival}
-use Rattle.jolvente.proofs.WalkAnswer.{no-met-room, no-record-room, walk-refused, walk-said}
+use Rattle.jolvente.proofs.WalkArrival.{with-c-arrival}
+use Rattle.jolvente.proofs.WalkAnswer.{no-met-room, no-walk-record, walk-refused, walk-said}
 use borrow.Author.Needs.{needs}
 use Rattle.jolvente.proofs.jolvente_walk.Statement.{statement}
 use Rattle.jolvente.proofs.jolvente_walk.Tie as tie
@@ -10,14 +10,14 @@ use Rattle.jolvente.proofs.jolvente_walk.Tie as tie
 returns : tie.Need-returns
 returns c =
     let z = c .before .before .before .before .args in
-    with-arrival _ _ _ _ _ _ _ _
+    with-c-arrival _ _ _ _ _ _ _ _
     (no-met-room (z .plan .now) (z .from) (z .goal) (z .met .now) (z .«record» .now) (λ e. omega arith))
 
 returns-2 : tie.Need-returns-2
 returns-2 c =
     let z = c .before .before .before .before .before .args in
-    with-arrival _ _ _ _ _ _ _ _
-    (no-record-room (z .plan .now) (z .from) (z .goal) (z .met .now) (z .«record» .now) (λ e. omega arith))
+    with-c-arrival _ _ _ _ _ _ _ _
+    (no-walk-record (z .plan .now) (z .from) (z .goal) (z .met .now) (z .«record» .now) (λ e. omega arith))
 
 number32-at-requires : tie.Need-number32-at-requires
 number32-at-requires c κs = search needs
@@ -42,7 +42,7 @@ returns-3 c =
     let at-if1 = at-if2 .before in
     let z = at-if1 .before .before .before .before .args in
     let w = at-walk-frame .walk-frame in
-    with-arrival _ _ _ _ _ _ _ _
+    with-c-arrival _ _ _ _ _ _ _ _
     (walk-refused (z .plan .now) (z .from) (z .goal) (z .met .now) (z .«record» .now) (omega (arith, at-if1 .if1 .left)) (omega (arith, at-if2 .if2 .left))
     _ (at-number32-at .number32-at .ensures) (at-walk-frame .before .before .number32-at2 .ensures) (w .result) _ _ refl (w .ensures .0) (λ e. omega arith))
 
@@ -72,7 +72,7 @@ returns-4 c =
     let at-if1 = at-if2 .before in
     let z = at-if1 .before .before .before .before .args in
     let w = at-walk-frame .walk-frame in
-    with-arrival _ _ _ _ _ _ _ _
+    with-c-arrival _ _ _ _ _ _ _ _
     (walk-said (z .plan .now) (z .from) (z .goal) (z .met .now) (z .«record» .now) (omega (arith, at-if1 .if1 .left)) (omega (arith, at-if2 .if2 .left))
     _ (at-number32-at .number32-at .ensures) (at-walk-frame .before .before .number32-at2 .ensures) (w .result) _ _ refl (w .ensures .0)
     (omega (arith, at-if3 .if3 .left)) _ _ (at-put-cards .put-cards .ensures) (at-put-record .put-record .ensures))
