@@ -14,7 +14,7 @@ use Rattle.rack.specs.WiringFile.{file-wiring, file-refusal}
 use Rattle.rack.proofs.Tables.{tabulate-ext, blocks-ext}
 use Rattle.rack.proofs.Accepted.{file-clear}
 use Rattle.rack.proofs.WiringFile.{Sized, wiring-at-cards, wiring-at-count}
-use Rattle.planner.specs.Opening.{bit-in, Words-of}
+use Rattle.planner.specs.OpenColumns.{bit-in, Words-of}
 use Rattle.planner.specs.Planning.{Answer-is}
 use Rattle.planner.specs.Words.{word-bit}
 use Rattle.planner.specs.declared.Answer.{Answer}

@@ -9,6 +9,7 @@ use lib.Dec.{ltb}
 use lib.ListN.{length, getD, set, length-set}
 use lib.Pow.{pow-mono, shl-exact}
 use lib.Seq.{getD-set-same, getD-set-other}
+use Rattle.rack.specs.Limits.{lent-words}
 use Rattle.rack.specs.Lists.{differ, one}
 use Rattle.rack.specs.Bits.{bits-value}
 use Rattle.rack.specs.Wiring.{Link, Wiring}
@@ -17,7 +18,7 @@ use Rattle.rack.proofs.Logic.{by-eq}
 use Rattle.rack.proofs.Bits.{bits-value-ext, bits-value-more, bits-value-few}
 use Rattle.rack.proofs.Columns.{column-bit}
 use Rattle.survey.specs.Tables.{cell, Hops-in}
-use Rattle.planner.specs.Opening.{bit-in, Words-of, side-in, Column-added}
+use Rattle.planner.specs.OpenColumns.{bit-in, Words-of, side-in, Column-added}
 use Rattle.planner.proofs.AddressWords.{bit-past, bit-new, bit-old}
 
 -- A CARD'S SIDE of a link, by two comparisons of hops
@@ -46,7 +47,7 @@ bit-fits s x false h l = omega (arith, zero-mul (2 ^ s), pow-mono {i = s} {j = 6
 pub none-added : (h ws : List ℕ) (p q k : ℕ) → Column-added h ws ws p q k 0
 none-added h ws p q k = record { long = refl; added = λ c l. absurd (omega arith); other = λ c t l n. refl; after = λ j l. refl }
 
-pub more-added : (h old new : List ℕ) (p q k c v : ℕ) → Column-added h old new p q k c → c < 256 → k < 256 → length old ≡ 1024
+pub more-added : (h old new : List ℕ) (p q k c v : ℕ) → Column-added h old new p q k c → c < 256 → k < 256 → length old ≡ lent-words
     → v ≡ getD new (4 * c + k / 64) 0 + one (side-in h p q c) * 2 ^ (k % 64) → Column-added h old (set new (4 * c + k / 64) v) p q k (c + 1)
 more-added h old new p q k c v a hc hk long hv =
     record {

@@ -7,6 +7,7 @@ use Prim.Native.Nat.{ℕ, _+_, _*_, _-_, _/_, _%_, _≤_, _<_}
 use native.Mathlib.Omega.{arith}
 use lib.ListN.{length, getD, replicate, length-append, length-replicate, getD-replicate, List·getD-append, List·getD-eq-default}
 use lib.Seq.{getD-append-seam}
+use Rattle.rack.specs.Limits.{lent-words}
 use Rattle.rack.specs.Lists.{differ, count, any}
 use Rattle.rack.specs.Bits.{number-bit}
 use Rattle.rack.specs.Wiring.{Link}
@@ -17,7 +18,7 @@ use Rattle.rack.proofs.Bits.{bits-value-number, bits-value-few}
 use Rattle.rack.proofs.Hamming.{hamming-none, hamming-ext, hamming-add, hamming-same}
 use Rattle.rack.proofs.Columns.{hamming-count}
 use Rattle.planner.specs.Words.{word-bit}
-use Rattle.planner.specs.Opening.{bit-in, separated, Words-of, part-hamming, words-hamming}
+use Rattle.planner.specs.OpenColumns.{bit-in, separated, Words-of, part-hamming, words-hamming}
 
 -- THE FOUR WORDS of two cards
 part-bit : (ws : List ℕ) (c t i : ℕ) → i < 64 → word-bit ws c (64 * t + i) ≡ number-bit (getD ws (4 * c + t) 0) i
@@ -108,10 +109,10 @@ module _ (l : Link) (cs : List (List Bool)) where
       ends-count ∙ none-count (separates l) cs (λ v m. not-true-false (separates l v) (λ t. true-not-false (any (separates l) cs) (in-any (separates l) cs v m t) h))
 
 -- WORDS that are zero hold no columns
-pub zero-words : (n : ℕ) (ws : List ℕ) → ws ≡ replicate 1024 0 → Words-of [] n ws
+pub zero-words : (n : ℕ) (ws : List ℕ) → ws ≡ replicate lent-words 0 → Words-of [] n ws
 zero-words n ws e =
     record {
-      long = ap length e ∙ length-replicate {A = ℕ} 1024 0;
+      long = ap length e ∙ length-replicate {A = ℕ} lent-words 0;
       is = λ c t hc ht. zero-at (4 * c + t) ∙ omega (arith, bits-value-few 64 (λ i. bit-in [] c (64 * t + i)) 0 (λ j l. bit-past [] c (64 * t + j) (omega arith)));
       rest = λ j h. zero-at j;
     }
@@ -119,5 +120,5 @@ zero-words n ws e =
     zero-at : (j : ℕ) → getD ws j 0 ≡ 0
     zero-at j =
         ap (λ (x : List ℕ). getD x j 0) e
-        ∙ by-lt j 1024 (λ l. getD-replicate {A = ℕ} 1024 j 0 0 l)
-        (λ l. List·getD-eq-default (replicate {A = ℕ} 1024 0) 0 {n = j} (omega (arith, length-replicate {A = ℕ} 1024 0)))
+        ∙ by-lt j lent-words (λ l. getD-replicate {A = ℕ} lent-words j 0 0 l)
+        (λ l. List·getD-eq-default (replicate {A = ℕ} lent-words 0) 0 {n = j} (omega (arith, length-replicate {A = ℕ} lent-words 0)))

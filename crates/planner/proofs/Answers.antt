@@ -14,7 +14,7 @@ use Rattle.rack.proofs.Logic.{by-bool}
 use Rattle.rack.proofs.Refusals.{or-else-first, or-else-second, embeds-embedding, embedding-embeds}
 use Rattle.rack.proofs.Acceptance.{connected-refusal}
 use Rattle.survey.specs.Tables.{Hops-in}
-use Rattle.planner.specs.Opening.{Words-of}
+use Rattle.planner.specs.OpenColumns.{Words-of}
 use Rattle.planner.specs.Stages.{Planned-as}
 use Rattle.rack.specs.Limits.{lent-words, lent-hops}
 use Rattle.planner.specs.declared.Answer.{Answer}

@@ -9,6 +9,7 @@ use lib.Dec.{ltb}
 use lib.ListN.{length, getD, replicate, length-append, length-replicate, getD-replicate, List·getD-append}
 use lib.Seq.{ext-getD, getD-append-add}
 use borrow.Author.Tests.{lt-ltb, le-ltb}
+use Rattle.rack.specs.Limits.{most-cards}
 use Rattle.rack.specs.Lists.{tabulate, blocks}
 use Rattle.rack.specs.Bits.{number-bit, bits-value}
 use Rattle.rack.specs.Wiring.{Wiring}
@@ -19,7 +20,7 @@ use Rattle.rack.proofs.Tables.{length-tabulate, getD-tabulate, length-blocks, g
 use Rattle.rack.proofs.Bits.{bits-value-number}
 use Rattle.survey.specs.Tables.{cell, Hops-in}
 use Rattle.planner.specs.Words.{word-bit}
-use Rattle.planner.specs.Opening.{bit-in, Words-of}
+use Rattle.planner.specs.OpenColumns.{bit-in, Words-of}
 use Rattle.planner.specs.Planning.{card-words, all-words, all-hops}
 
 -- a buffer that begins with a list and is zero behind it
@@ -61,7 +62,7 @@ length-all-words : (w : Wiring) → length (all-words w) ≡ w .cards * 4
 unfolding all-words
 length-all-words w = length-blocks (w .cards) 4 (λ c. card-words (address w c)) (λ c. length-card-words (address w c))
 
-pub words-list : (w : Wiring) (ws : List ℕ) → w .cards ≤ 256 → Words-of (columns w) (w .cards) ws → ws ≡ all-words w ++ replicate (length ws - length (all-words w)) 0
+pub words-list : (w : Wiring) (ws : List ℕ) → w .cards ≤ most-cards → Words-of (columns w) (w .cards) ws → ws ≡ all-words w ++ replicate (length ws - length (all-words w)) 0
 unfolding all-words address bit-in
 words-list w ws few h = zeros-behind (all-words w) ws (omega (arith, h .long, length-all-words w)) front (λ i k l. h .rest i (omega (arith, length-all-words w)))
   where
@@ -102,7 +103,7 @@ hop-place w h m a b ha hb =
     (λ l. m .is a b ha l ∙ sym (getD-tabulate 256 (λ b. cond (ltb b (w .cards)) (hops w a b) 0) b 0 hb ∙ rw (lt-ltb b (w .cards) l) refl))
     (λ l. m .places a b hb l ∙ sym (getD-tabulate 256 (λ b. cond (ltb b (w .cards)) (hops w a b) 0) b 0 hb ∙ rw (le-ltb b (w .cards) l) refl))
 
-pub hops-list : (w : Wiring) (h : List ℕ) → w .cards ≤ 256 → Hops-in w h → h ≡ all-hops w ++ replicate (length h - length (all-hops w)) 0
+pub hops-list : (w : Wiring) (h : List ℕ) → w .cards ≤ most-cards → Hops-in w h → h ≡ all-hops w ++ replicate (length h - length (all-hops w)) 0
 unfolding all-hops
 hops-list w h few m = zeros-behind (all-hops w) h (omega (arith, m .long, length-all-hops w)) front back
   where
@@ -119,7 +120,7 @@ hops-list w h few m = zeros-behind (all-hops w) h (omega (arith, m .long, length
     back : (i : ℕ) → length (all-hops w) ≤ i → i < length h → getD h i 0 ≡ 0
     back i k l = ap (λ (p : ℕ). getD h p 0) (row-place i) ∙ m .rows (i / 256) (i % 256) (omega arith) (omega (arith, length-all-hops w))
 
-pub hops-at : (w : Wiring) (zs : List ℕ) (a b : ℕ) → w .cards ≤ 256 → a < w .cards → b < w .cards → cell (all-hops w ++ zs) a b ≡ hops w a b
+pub hops-at : (w : Wiring) (zs : List ℕ) (a b : ℕ) → w .cards ≤ most-cards → a < w .cards → b < w .cards → cell (all-hops w ++ zs) a b ≡ hops w a b
 unfolding all-hops
 hops-at w zs a b few ha hb =
     table-at (w .cards) 256 (hop-row w) (length-hop-row w) zs a b ha (omega arith)

@@ -1,8 +1,8 @@
 pub mod PlanBytes
 pub mod AddressWords
 pub mod AddedColumn
-pub mod OpenedLinks
-pub mod OpenedColumns
+pub mod LinkColumns
+pub mod ColumnsOpened
 pub mod MeasuredPairs
 pub mod Contents
 pub mod Answers

@@ -5,6 +5,7 @@ use mathlib.Core.List.{List}
 use Prim.Native.Nat.{ℕ, _+_, _≤_, _<_}
 use native.Mathlib.Omega.{arith}
 use lib.ListN.{length}
+use Rattle.rack.specs.Limits.{most-cards}
 use Rattle.rack.specs.Wiring.{Wiring, link-count}
 use Rattle.rack.specs.Hops.{hops}
 use Rattle.rack.specs.Columns.{columns, column-count, address, hamming, Embedding}
@@ -16,9 +17,9 @@ use Rattle.rack.proofs.Uniqueness.{addresses-embed}
 use Rattle.rack.proofs.FewColumns.{few-columns}
 use Rattle.survey.specs.Tables.{cell, Hops-in}
 use Rattle.planner.specs.Stages.{Addressed}
-use Rattle.planner.specs.Opening.{bit-in, opened, Words-of, Opened, words-hamming, Pairs-measure}
+use Rattle.planner.specs.OpenColumns.{bit-in, columns-opened, Words-of, Columns-opened, words-hamming, Pairs-measure}
 use Rattle.planner.proofs.AddressWords.{words-hamming-columns}
-use Rattle.planner.proofs.OpenedColumns.{opened-columns}
+use Rattle.planner.proofs.ColumnsOpened.{columns-opened-all}
 
 -- CARD BY CARD
 pub no-pairs : (ws h : List ℕ) → Pairs-measure ws h 0
@@ -46,30 +47,30 @@ module _ (w : Wiring) (cs : List (List Bool)) (ws h : List ℕ) (s : Words-of cs
       record { measured = λ a b ha hb. words-hamming-columns cs (w .cards) ws s few a b ha (omega arith) ∙ m a b ha (omega arith) ∙ sym (t .is a b ha (omega arith)) }
 
 -- THE DECISION, over all links' columns in the words and a table of hops
-module _ (w : Wiring) (rack : Rack w) (ws h : List ℕ) (n m k : ℕ) (cards : n ≡ w .cards) (links : m ≡ link-count w) (few : n ≤ 256) (t : Hops-in w h) (o : Opened w n m ws k) where
-  all-count : k < n → k ≡ length (opened w (link-count w))
+module _ (w : Wiring) (rack : Rack w) (ws h : List ℕ) (n m k : ℕ) (cards : n ≡ w .cards) (links : m ≡ link-count w) (few : n ≤ most-cards) (t : Hops-in w h) (o : Columns-opened w n m ws k) where
+  all-count : k < n → k ≡ length (columns-opened w (link-count w))
   all-count g = rw links at (o .count g)
 
-  all-words : k < n → Words-of (opened w (link-count w)) (w .cards) ws
-  all-words g = subst (λ (v : ℕ). Words-of (opened w (link-count w)) v ws) cards (rw links at (o .words g))
+  all-columns-words : k < n → Words-of (columns-opened w (link-count w)) (w .cards) ws
+  all-columns-words g = subst (λ (v : ℕ). Words-of (columns-opened w (link-count w)) v ws) cards (rw links at (o .words g))
 
   pub measured-addressed : k < n → Pairs-measure ws h n → Addressed w n ws k
   unfolding column-count
   measured-addressed g p =
       record {
         most = o .most;
-        embedding = λ l. addresses-embed w rack (length (opened w (link-count w))) (bit-in (opened w (link-count w))) embedding;
+        embedding = λ l. addresses-embed w rack (length (columns-opened w (link-count w))) (bit-in (columns-opened w (link-count w))) embedding;
         count = λ l. all-count g ∙ ap length same;
-        words = λ l. subst (λ (v : ℕ). Words-of (columns w) v ws) (sym cards) (rw same at (all-words g));
+        words = λ l. subst (λ (v : ℕ). Words-of (columns w) v ws) (sym cards) (rw same at (all-columns-words g));
         none = λ e. absurd (omega arith);
       }
     where
-      embedding : Embedding w (length (opened w (link-count w))) (bit-in (opened w (link-count w)))
+      embedding : Embedding w (length (columns-opened w (link-count w))) (bit-in (columns-opened w (link-count w)))
       embedding =
-          pairs-embed w (opened w (link-count w)) ws h (all-words g) (omega (arith, all-count g)) t (subst (λ (v : ℕ). Pairs-measure ws h v) cards p)
+          pairs-embed w (columns-opened w (link-count w)) ws h (all-columns-words g) (omega (arith, all-count g)) t (subst (λ (v : ℕ). Pairs-measure ws h v) cards p)
 
-      same : opened w (link-count w) ≡ columns w
-      same = opened-columns w rack (length (opened w (link-count w))) (bit-in (opened w (link-count w))) embedding
+      same : columns-opened w (link-count w) ≡ columns w
+      same = columns-opened-all w rack (length (columns-opened w (link-count w))) (bit-in (columns-opened w (link-count w))) embedding
 
   not-addressed : (Embedding w (column-count w) (address w) → ⊥) → Addressed w n ws n
   not-addressed none =
@@ -81,9 +82,9 @@ module _ (w : Wiring) (rack : Rack w) (ws h : List ℕ) (n m k : ℕ) (cards : n
     where
       impossible : Embedding w (length (columns w)) (bit-in (columns w)) → ⊥
       impossible m =
-          let same = opened-columns w rack (length (columns w)) (bit-in (columns w)) m in
+          let same = columns-opened-all w rack (length (columns w)) (bit-in (columns w)) m in
           p (subst (λ (v : ℕ). Pairs-measure ws h v) (sym cards)
-          (embed-pairs w (columns w) ws h (rw same at (all-words g)) (omega (arith, all-count g, ap length same)) t m))
+          (embed-pairs w (columns w) ws h (rw same at (all-columns-words g)) (omega (arith, all-count g, ap length same)) t m))
 
   pub full-addressed : k ≡ n → Addressed w n ws n
   unfolding column-count
@@ -91,4 +92,4 @@ module _ (w : Wiring) (rack : Rack w) (ws h : List ℕ) (n m k : ℕ) (cards : n
     where
       impossible : Embedding w (column-count w) (address w) → ⊥
       impossible m =
-          omega (arith, o .full g, ap (λ (i : ℕ). length (opened w i)) links, ap length (opened-columns w rack (column-count w) (address w) m), few-columns w rack m)
+          omega (arith, o .full g, ap (λ (i : ℕ). length (columns-opened w i)) links, ap length (columns-opened-all w rack (column-count w) (address w) m), few-columns w rack m)

@@ -17,7 +17,7 @@ use Rattle.rack.proofs.Accepted.{wiring-accepted, file-clear}
 use Rattle.rack.proofs.WiringFile.{wiring-at-cards, wiring-at-count}
 use Rattle.rack.proofs.Numbers.{file-numbers}
 use Rattle.planner.specs.Stages.{File-planned}
-use Rattle.rack.specs.Limits.{lent-words, lent-hops}
+use Rattle.rack.specs.Limits.{lent-words, lent-hops, most-cards, most-columns, most-links}
 use Rattle.planner.specs.Planning.{all-words, all-hops, left-in, Answer-is, planning-refusal, Plan-says}
 use Rattle.planner.specs.declared.Answer.{Answer}
 use Rattle.planner.proofs.Contents.{words-list, hops-list}
@@ -43,15 +43,15 @@ left-zero n new old z o = rw (ne-eqb n 1 o, ne-eqb n 0 z) refl
 pub answer-value : (n v k : ℕ) → (n ≡ 0 → v ≡ k) → (n ≢ 0 → v ≡ 0) → v ≡ cond (eqb n 0) k 0
 answer-value n v k h z = by-eq n 0 (λ e. h e ∙ sym (rw (eq-eqb n 0 e) refl)) (λ e. z e ∙ sym (rw (ne-eqb n 0 e) refl))
 
-pub accepted-few : (bs : List ℕ) → file-refusal bs .number ≡ 0 → file-wiring bs .cards ≤ 256
+pub accepted-few : (bs : List ℕ) → file-refusal bs .number ≡ 0 → file-wiring bs .cards ≤ most-cards
 accepted-few bs h = omega (arith, file-clear bs h .0 .cards, wiring-at-cards 4 bs)
 
-pub accepted-columns : (bs : List ℕ) → file-refusal bs .number ≡ 0 → column-count (file-wiring bs) ≤ 255
+pub accepted-columns : (bs : List ℕ) → file-refusal bs .number ≡ 0 → column-count (file-wiring bs) ≤ most-columns
 accepted-columns bs h =
     let c = file-clear bs h in
     omega (arith, wiring-accepted (file-wiring bs) (omega (arith, c .0 .some, wiring-at-cards 4 bs)) (c .1) .few, accepted-few bs h)
 
-pub accepted-links : (bs : List ℕ) → file-refusal bs .number ≡ 0 → link-count (file-wiring bs) ≤ 2048
+pub accepted-links : (bs : List ℕ) → file-refusal bs .number ≡ 0 → link-count (file-wiring bs) ≤ most-links
 accepted-links bs h = omega (arith, file-clear bs h .0 .links, wiring-at-count 4 bs)
 
 -- PLANNING in buffers of another length

@@ -13,38 +13,38 @@ use Rattle.rack.specs.Refusals.{Refusal, refusal, links-refusal, reach-refusal,
 use Rattle.rack.specs.Buffers.{number-at}
 use Rattle.rack.specs.WiringFile.{file-wiring, sizes-fault, file-refusal}
 use Rattle.rack.proofs.Acceptance.{reach-clear}
-use Rattle.survey.specs.Formed.{Fault-is, Formed}
+use Rattle.survey.specs.Formed.{Refused-is, Formed}
 use Rattle.survey.specs.Tables.{Hops-in}
-use Rattle.planner.specs.Opening.{Words-of}
+use Rattle.planner.specs.OpenColumns.{Words-of}
 use Rattle.planner.specs.Stages.{Addressed, Rack-planned, File-planned}
 use Rattle.rack.specs.Limits.{lent-words, lent-hops}
-use Rattle.survey.specs.declared.links.Fault.{Fault}
+use Rattle.survey.specs.declared.links.Refused.{Refused}
 use Rattle.planner.specs.declared.Answer.{Answer}
 use Rattle.survey.proofs.Forms.{sizes-are, formed}
 use Rattle.planner.proofs.Answers.{refusal-of-sizes, refusal-of-links, refusal-of-rack, refusal-of-reach, refusal-of-parity}
 use Rattle.planner.proofs.Answers.{refusal-of-none, refusal-of-embedding, planned-refused, planned-found}
 
 -- A RACK: 9, 10, 11, or its plan
-pub fault-refusal : (g : Fault) (f : Refusal) → Fault-is g f → f ≡ refusal (g .number) (g .at)
-fault-refusal g f i = ap₂ refusal (sym (i .number)) (sym (i .at))
+pub refusal-of-refused : (g : Refused) (f : Refusal) → Refused-is g f → f ≡ refusal (g .number) (g .at)
+refusal-of-refused g f i = ap₂ refusal (sym (i .number)) (sym (i .at))
 
 abbrev answer : (number at value : ℕ) → Answer
 answer n i v = record { number = n; at = i; value = v }
 
-module _ (w : Wiring) (g : Fault) (ws h : List ℕ) where
-  pub reached : Fault-is g (reach-refusal w) → g .number ≡ 0 → connected w ≡ true
+module _ (w : Wiring) (g : Refused) (ws h : List ℕ) where
+  pub reached : Refused-is g (reach-refusal w) → g .number ≡ 0 → connected w ≡ true
   reached i z = reach-clear w (sym (i .number) ∙ z)
 
-  pub unreached-planned : Fault-is g (reach-refusal w) → g .number ≢ 0 → length ws ≡ lent-words → length h ≡ lent-hops → Rack-planned w (answer (g .number) (g .at) 0) ws h
+  pub unreached-planned : Refused-is g (reach-refusal w) → g .number ≢ 0 → length ws ≡ lent-words → length h ≡ lent-hops → Rack-planned w (answer (g .number) (g .at) 0) ws h
   unreached-planned i n lw lh =
       planned-refused (rack-refusal w) w (answer (g .number) (g .at) 0) ws h
-      (refusal-of-reach w (λ z. n (i .number ∙ z)) ∙ fault-refusal g (reach-refusal w) i) n refl lw lh
+      (refusal-of-reach w (λ z. n (i .number ∙ z)) ∙ refusal-of-refused g (reach-refusal w) i) n refl lw lh
 
-  module _ (c : connected w ≡ true) (i : Fault-is g (parity-refusal w)) where
+  module _ (c : connected w ≡ true) (i : Refused-is g (parity-refusal w)) where
     pub odd-planned : g .number ≢ 0 → length ws ≡ lent-words → length h ≡ lent-hops → Rack-planned w (answer (g .number) (g .at) 0) ws h
     odd-planned n lw lh =
         planned-refused (rack-refusal w) w (answer (g .number) (g .at) 0) ws h
-        (refusal-of-parity w c (λ z. n (i .number ∙ z)) ∙ fault-refusal g (parity-refusal w) i) n refl lw lh
+        (refusal-of-parity w c (λ z. n (i .number ∙ z)) ∙ refusal-of-refused g (parity-refusal w) i) n refl lw lh
 
     pub none-planned : (n k : ℕ) → g .number ≡ 0 → k ≡ n → Addressed w n ws k → length ws ≡ lent-words → length h ≡ lent-hops → Rack-planned w (answer 11 0 0) ws h
     none-planned n k z e a lw lh =
@@ -61,11 +61,11 @@ module _ (bs ws h : List ℕ) where
   sizes-planned x e n lw lh =
       planned-refused (file-refusal bs) (file-wiring bs) (answer x 0 0) ws h (refusal-of-sizes bs (λ z. n (e ∙ z)) ∙ ap (λ (y : ℕ). refusal y 0) (sym e)) n refl lw lh
 
-  module _ (z : sizes-fault bs ≡ 0) (g : Fault) (i : Fault-is g (links-refusal (file-wiring bs))) where
+  module _ (z : sizes-fault bs ≡ 0) (g : Refused) (i : Refused-is g (links-refusal (file-wiring bs))) where
     pub links-planned : g .number ≢ 0 → length ws ≡ lent-words → length h ≡ lent-hops → File-planned bs (answer (g .number) (g .at) 0) ws h
     links-planned n lw lh =
         planned-refused (file-refusal bs) (file-wiring bs) (answer (g .number) (g .at) 0) ws h
-        (refusal-of-links bs z (λ y. n (i .number ∙ y)) ∙ fault-refusal g (links-refusal (file-wiring bs)) i) n refl lw lh
+        (refusal-of-links bs z (λ y. n (i .number ∙ y)) ∙ refusal-of-refused g (links-refusal (file-wiring bs)) i) n refl lw lh
 
     pub links-formed : (n m : ℕ) → n ≡ number-at bs 0 → m ≡ number-at bs 2 → g .number ≡ 0 → Formed bs n m
     links-formed n m en em y = formed bs n m (sizes-are bs n m z en em) (sym (i .number) ∙ y)

@@ -22,9 +22,9 @@ use Rattle.rack.proofs.WiringFile.{sized-clear, wiring-at-cards, wiring-at-coun
 use Rattle.rack.specs.PlanFile.{address-size}
 use Rattle.planner.specs.PlanBytes.{address-bytes, plan-bytes}
 use Rattle.survey.specs.Formed.{Sizes-are}
-use Rattle.planner.specs.Opening.{bit-in, Words-of}
+use Rattle.planner.specs.OpenColumns.{bit-in, Words-of}
 use Rattle.planner.specs.Stages.{File-planned}
-use Rattle.rack.specs.Limits.{lent-plan}
+use Rattle.rack.specs.Limits.{lent-plan, most-columns}
 use Rattle.planner.specs.Planning.{writing-refusal, Write-says}
 use Rattle.planner.specs.Writing.{end-pair, word-byte, written-bytes}
 use Rattle.planner.specs.declared.Answer.{Answer}
@@ -48,7 +48,7 @@ ends-written bs =
     end-place m i = omega arith
 
 -- THE ADDRESSES
-module _ (w : Wiring) (ws : List ℕ) (words : Words-of (columns w) (w .cards) ws) (few : column-count w ≤ 255) where
+module _ (w : Wiring) (ws : List ℕ) (words : Words-of (columns w) (w .cards) ws) (few : column-count w ≤ most-columns) where
   byte-written : (c t : ℕ) → c < w .cards → t < 32 → word-byte ws c t ≡ bits-value 8 (λ i. address w c (8 * t + i))
   unfolding word-byte address bit-in
   byte-written c t hc ht =
@@ -69,7 +69,7 @@ module _ (w : Wiring) (ws : List ℕ) (words : Words-of (columns w) (w .cards) w
       (λ t ht. byte-written c t hc (omega (arith, size-few))))
 
 -- THE PLAN
-plan-bytes-written : (bs ws : List ℕ) (k : ℕ) → k ≡ column-count (file-wiring bs) → k ≤ 255 → Words-of (columns (file-wiring bs)) (file-wiring bs .cards) ws
+plan-bytes-written : (bs ws : List ℕ) (k : ℕ) → k ≡ column-count (file-wiring bs) → k ≤ most-columns → Words-of (columns (file-wiring bs)) (file-wiring bs .cards) ws
     → written-bytes bs ws k ≡ plan-bytes (file-wiring bs)
 unfolding written-bytes plan-bytes
 plan-bytes-written bs ws k e few words =
@@ -123,7 +123,7 @@ module _ (bs : List ℕ) (r : Answer) (ws h o : List ℕ) (lo : length o ≡ len
           long = omega (arith, c .long);
         }
 
-    pub columns-few : r .value ≤ 255
+    pub columns-few : r .value ≤ most-columns
     columns-few = omega (arith, p .value z, accepted-columns bs accepted)
 
     pub write-says-found : (out : List ℕ) (v : ℕ) → length out ≡ length o → Written out (written-bytes bs ws (r .value)) → v ≡ length (written-bytes bs ws (r .value))

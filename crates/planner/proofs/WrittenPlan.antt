@@ -10,7 +10,7 @@ use Rattle.rack.specs.Buffers.{number-at, two-bytes, Written, Appends}
 use Rattle.rack.proofs.Appending.{written-none, appends-then}
 use Rattle.rack.proofs.Tables.{length-tabulate, length-blocks}
 use Rattle.rack.proofs.WiringFile.{length-two-bytes}
-use Rattle.rack.specs.Limits.{lent-plan}
+use Rattle.rack.specs.Limits.{lent-plan, most-cards}
 use Rattle.rack.specs.PlanFile.{address-size, addresses-start}
 use Rattle.survey.specs.Formed.{Sizes-are}
 use Rattle.planner.specs.Writing.{end-pair, word-byte, written-bytes}
@@ -19,7 +19,7 @@ use Rattle.planner.specs.Writing.{end-pair, word-byte, written-bytes}
 pub address-room : (c n size : ℕ) → c < n → c * size + size ≤ n * size
 address-room c n size h = omega (arith, suc-mul c size, mul-le-mul-right size h)
 
-pub addresses-room : (n size : ℕ) → n ≤ 256 → size ≤ 32 → n * size ≤ 8192
+pub addresses-room : (n size : ℕ) → n ≤ most-cards → size ≤ 32 → n * size ≤ 8192
 addresses-room n size hn hs = mul-le-mul {n₂ = 256} {m₂ = 32} hn hs
 
 -- THE THREE SIZES, and then the whole plan

@@ -1,6 +1,6 @@
 pub mod PlanBytes
 pub mod Words
-pub mod Opening
+pub mod OpenColumns
 pub mod Stages
 pub mod Planning
 pub mod Writing

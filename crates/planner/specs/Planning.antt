@@ -8,7 +8,7 @@ use lib.Dec.{ltb, eqb}
 use lib.ListN.{length, replicate}
 use Rattle.rack.specs.Lists.{tabulate, blocks}
 use Rattle.rack.specs.Bits.{bits-value}
-use Rattle.rack.specs.Limits.{lent-words, lent-hops, lent-plan}
+use Rattle.rack.specs.Limits.{lent-words, lent-hops, lent-plan, most-cards}
 use Rattle.rack.specs.Wiring.{Wiring}
 use Rattle.rack.specs.Hops.{hops, connected}
 use Rattle.rack.specs.Columns.{column-count, address, Embedding}
@@ -28,9 +28,9 @@ card-words row = tabulate 4 (λ t. bits-value 64 (λ i. row (64 * t + i)))
 unfoldable pub all-words : Wiring → List ℕ
 all-words w = blocks (w .cards) (λ c. card-words (address w c))
 
--- hops at 256 times from plus to
+-- a row of 256 a card: hops at 256 times from plus to
 unfoldable pub all-hops : Wiring → List ℕ
-all-hops w = blocks (w .cards) (λ a. tabulate 256 (λ b. cond (ltb b (w .cards)) (hops w a b) 0))
+all-hops w = blocks (w .cards) (λ a. tabulate most-cards (λ b. cond (ltb b (w .cards)) (hops w a b) 0))
 
 -- a lent buffer afterwards: with 1 nothing is touched, with another refusal it is zero throughout, else what is not used is zero
 unfoldable pub left-in : (number : ℕ) → (new old : List ℕ) → List ℕ

@@ -9,7 +9,7 @@ use Rattle.rack.specs.Columns.{columns, column-count, address, Embedding}
 use Rattle.rack.specs.Refusals.{Refusal, rack-refusal}
 use Rattle.rack.specs.WiringFile.{file-wiring, file-refusal}
 use Rattle.survey.specs.Tables.{Hops-in}
-use Rattle.planner.specs.Opening.{Words-of}
+use Rattle.planner.specs.OpenColumns.{Words-of}
 use Rattle.planner.specs.declared.Answer.{Answer}
 
 -- below n: the addresses of all cards are in the words; n: there are none

@@ -2,15 +2,16 @@
 ghost use mathlib.Core.Path.{_≡_};
 ghost use Prim.Native.Nat.{ℕ, _+_, _*_, _/_, _%_, _^_, _<_, _≤_};
 ghost use lib.ListN.{length, getD, replicate};
-ghost use Rattle.rack.specs.Limits.{lent-hops, lent-words, most-cards};
+ghost use Rattle.rack.specs.Limits.{lent-hops, lent-words, most-cards, most-columns};
 ghost use Rattle.rack.specs.Lists.{one};
 ghost use Rattle.rack.specs.Ones.{Counts};
 ghost use Rattle.rack.specs.WiringFile.{file-wiring};
 ghost use Rattle.survey.specs.Formed.{Formed};
 ghost use Rattle.survey.specs.Tables.{Hops-in};
-ghost use Rattle.planner.specs.Opening.{Column-added, Opened, part-hamming, side-in, words-hamming};
+ghost use Rattle.planner.specs.OpenColumns.{Column-added, Columns-opened, part-hamming, side-in, words-hamming};
 use rack::bytes::first_end;
 use rack::bytes::second_end;
+use rack::limits::MOST_CARDS;
 use rack::places::word_hamming;
 
 // The places in which words `t` of two cards differ.
@@ -39,7 +40,7 @@ fn side_weight(hops: &[u8], p: usize, q: usize, c: usize, weight: u64) -> u64
     requires { ⌜ (length (now hops) ≡ lent-hops) × (p < most-cards) × (q < most-cards) × (c < most-cards) ⌝ }
     ensures { λ r. ⌜ r ≡ one (side-in (now (hops .entry)) p q c) * weight ⌝ }
 {
-    if hops[256 * c + p] < hops[256 * c + q] {
+    if hops[MOST_CARDS * c + p] < hops[MOST_CARDS * c + q] {
         if hops[p] < hops[q] {
             return 0;
         }
@@ -53,7 +54,7 @@ fn side_weight(hops: &[u8], p: usize, q: usize, c: usize, weight: u64) -> u64
 
 // Adds column `k`, that of a link from `p` to `q`, to the words of the `n` cards.
 fn add_column(hops: &[u8], n: usize, p: usize, q: usize, k: usize, words: &mut [u64])
-    requires { ⌜ (length (now hops) ≡ lent-hops) × (length (now words) ≡ lent-words) × (n ≤ most-cards) × (p < most-cards) × (q < most-cards) × (k < 256) × ((c : ℕ) → c < n → getD (now words) (4 * c + k / 64) 0 < 2 ^ (k % 64)) ⌝ }
+    requires { ⌜ (length (now hops) ≡ lent-hops) × (length (now words) ≡ lent-words) × (n ≤ most-cards) × (p < most-cards) × (q < most-cards) × (k ≤ most-columns) × ((c : ℕ) → c < n → getD (now words) (4 * c + k / 64) 0 < 2 ^ (k % 64)) ⌝ }
     ensures { λ _. ⌜ Column-added (now (hops .entry)) (now (words .entry)) (now (words .exit)) p q k n ⌝ }
 {
     let word = k / 64;
@@ -76,8 +77,8 @@ fn open_link(
     k: usize,
     words: &mut [u64],
 ) -> usize
-    requires { ⌜ Counts (now ones) × Formed (now file) n m × (i < m) × Hops-in (file-wiring (now file)) (now hops) × (k < n) × Opened (file-wiring (now file)) n i (now words) k ⌝ }
-    ensures { λ r. ⌜ Opened (file-wiring (now (file .entry))) n (i + 1) (now (words .exit)) r ⌝ }
+    requires { ⌜ Counts (now ones) × Formed (now file) n m × (i < m) × Hops-in (file-wiring (now file)) (now hops) × (k < n) × Columns-opened (file-wiring (now file)) n i (now words) k ⌝ }
+    ensures { λ r. ⌜ Columns-opened (file-wiring (now (file .entry))) n (i + 1) (now (words .exit)) r ⌝ }
 {
     let p = first_end(file, 4, m, i);
     let q = second_end(file, 4, m, i);
@@ -101,7 +102,7 @@ pub fn open_columns(
     words: &mut [u64],
 ) -> usize
     requires { ⌜ Counts (now ones) × Formed (now file) n m × Hops-in (file-wiring (now file)) (now hops) × (now words ≡ replicate lent-words 0) ⌝ }
-    ensures { λ r. ⌜ Opened (file-wiring (now (file .entry))) n m (now (words .exit)) r ⌝ }
+    ensures { λ r. ⌜ Columns-opened (file-wiring (now (file .entry))) n m (now (words .exit)) r ⌝ }
 {
     let mut k: usize = 0;
     let mut i: usize = 0;

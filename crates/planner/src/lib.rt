@@ -19,11 +19,11 @@ use rack::limits::LENT_PLAN;
 use rack::limits::LENT_WORDS;
 use rack::ones::ones_table;
 use survey::hops::all_hops;
-use survey::hops::parity_fault;
-use survey::links::links_fault;
+use survey::hops::parity_refusal;
+use survey::links::links_refusal;
 use survey::links::sizes_fault;
 use survey::order::link_order;
-use survey::reach::reach_fault;
+use survey::reach::reach_refusal;
 use write::put_plan;
 
 pub mod columns;
@@ -59,7 +59,7 @@ fn plan_formed(file: &[u8], n: usize, m: usize, words: &mut [u64], hops: &mut [u
     ensures { λ r. ⌜ Rack-planned (file-wiring (now (file .entry))) r (now (words .exit)) (now (hops .exit)) ⌝ }
 {
     let order = link_order(file, n, m);
-    let f = reach_fault(file, n, m, &order, hops);
+    let f = reach_refusal(file, n, m, &order, hops);
     if f.number != 0 {
         return Answer {
             number: f.number,
@@ -68,7 +68,7 @@ fn plan_formed(file: &[u8], n: usize, m: usize, words: &mut [u64], hops: &mut [u
         };
     }
     all_hops(file, n, m, &order, hops);
-    let g = parity_fault(file, n, m, hops);
+    let g = parity_refusal(file, n, m, hops);
     if g.number != 0 {
         return Answer {
             number: g.number,
@@ -106,7 +106,7 @@ pub fn plan_file(file: &[u8], words: &mut [u64], hops: &mut [u8]) -> Answer
     }
     let n = number_at(file, 0);
     let m = number_at(file, 2);
-    let f = links_fault(file, n, m, hops);
+    let f = links_refusal(file, n, m, hops);
     if f.number != 0 {
         return Answer {
             number: f.number,

@@ -5,8 +5,9 @@ ghost use Prim.Native.Nat.{_≤_};
 ghost use lib.ListN.{length};
 ghost use Rattle.rack.specs.Limits.{lent-hops, lent-words, most-cards};
 ghost use Rattle.rack.specs.Ones.{Counts};
-ghost use Rattle.planner.specs.Opening.{Pairs-measure};
+ghost use Rattle.planner.specs.OpenColumns.{Pairs-measure};
 use crate::columns::card_hamming;
+use rack::limits::MOST_CARDS;
 
 // Whether every pair of cards has as many differing places as hops; both loops are left at the first pair that has not.
 pub fn pairs_measure(ones: &[u8; 256], words: &[u64], hops: &[u8], n: usize) -> bool
@@ -19,7 +20,7 @@ pub fn pairs_measure(ones: &[u8; 256], words: &[u64], hops: &[u8], n: usize) -> 
     'pairs: while a < n {
         let mut b: usize = 0;
         while b < a {
-            if card_hamming(ones, words, a, b) != hops[256 * a + b] as u32 {
+            if card_hamming(ones, words, a, b) != hops[MOST_CARDS * a + b] as u32 {
                 measured = false;
                 break 'pairs;
             }

@@ -9,6 +9,7 @@ use lib.Dec.{ltb, eqb}
 use lib.ListN.{length, set, length-set, List·getD-eq-default}
 use lib.Seq.{getD-set-same, getD-set-other}
 use borrow.Author.Tests.{le-leb, lt-leb, lt-ltb, le-ltb, eq-eqb, ne-eqb}
+use Rattle.rack.specs.Limits.{lent-hops}
 use Rattle.rack.specs.Wiring.{Wiring}
 use Rattle.rack.specs.Hops.{hops, connected}
 use Rattle.rack.specs.WiringFile.{file-wiring}
@@ -46,7 +47,7 @@ module _ (n bound : ℕ) where
   pub filled-none : (h : List ℕ) (a : ℕ) → Row-filled n bound h h a 0
   filled-none h a = record { long = refl; before = λ i l. refl; is = λ b l. absurd (omega arith) }
 
-  pub filled-more : (old h : List ℕ) (a b v : ℕ) → length old ≡ 65536 → a < 256 → b < 256 → v ≡ place-bound n bound b → Row-filled n bound old h a b
+  pub filled-more : (old h : List ℕ) (a b v : ℕ) → length old ≡ lent-hops → a < 256 → b < 256 → v ≡ place-bound n bound b → Row-filled n bound old h a b
       → Row-filled n bound old (set h (256 * a + b) v) a (b + 1)
   filled-more old h a b v long ha hb e f =
       record {
@@ -58,7 +59,7 @@ module _ (n bound : ℕ) where
       }
 
 -- THE TABLE row by row
-pub started-none : (n : ℕ) (h : List ℕ) → length h ≡ 65536 → Started n h 0
+pub started-none : (n : ℕ) (h : List ℕ) → length h ≡ lent-hops → Started n h 0
 started-none n h e = record { long = e; is = λ a b hb l. absurd (omega arith) }
 
 pub started-row : (n : ℕ) (old h : List ℕ) (a : ℕ) → a < 256 → Started n old a → Row-filled n (row-bound n a) old h a 256 → Started n (set h (256 * a + a) 0) (a + 1)

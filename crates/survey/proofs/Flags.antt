@@ -10,6 +10,7 @@ use lib.Dec.{eqb}
 use lib.ListN.{length, getD, set, replicate, length-set}
 use lib.Seq.{getD-set-same, getD-set-other}
 use borrow.Author.Tests.{eqb-true, eqb-false, eq-eqb, ne-eqb, not-true, not-false}
+use Rattle.rack.specs.Limits.{lent-hops}
 use Rattle.rack.specs.Lists.{count, range}
 use Rattle.rack.specs.Wiring.{Link, Wiring, link, link-count, link-at, linked}
 use Rattle.rack.specs.Hops.{hops, unreached, connected}
@@ -137,17 +138,17 @@ then-spread w old mid new i j k a b x y =
     earlier z c h l = let e : new ≡ mid = y .still (omega arith) in rw e (x .closed (omega arith) c h l)
 
 -- CARD 0 ALONE
-pub first-flag : (w : Wiring) (s : List ℕ) → s ≡ replicate 65536 0 → 1 ≤ w .cards → Flagged w (set s 0 1)
+pub first-flag : (w : Wiring) (s : List ℕ) → s ≡ replicate lent-hops 0 → 1 ≤ w .cards → Flagged w (set s 0 1)
 first-flag w s e some =
     record {
-      long = length-set s 0 1 ∙ zeros-long 65536 s e;
-      flag = λ c. by-eq c 0 (λ d. rw d (omega (arith, start))) (λ n. omega (arith, getD-set-other s 0 c 1 0 n, zeros-at 65536 s e c));
+      long = length-set s 0 1 ∙ zeros-long lent-hops s e;
+      flag = λ c. by-eq c 0 (λ d. rw d (omega (arith, start))) (λ n. omega (arith, getD-set-other s 0 c 1 0 n, zeros-at lent-hops s e c));
       start = start;
-      real = λ c h n. by-eq c 0 (λ d. rw d (omega (arith, hops-self w 0))) (λ k. absurd (n (getD-set-other s 0 c 1 0 k ∙ zeros-at 65536 s e c)));
+      real = λ c h n. by-eq c 0 (λ d. rw d (omega (arith, hops-self w 0))) (λ k. absurd (n (getD-set-other s 0 c 1 0 k ∙ zeros-at lent-hops s e c)));
     }
   where
     start : getD (set s 0 1) 0 0 ≡ 1
-    start = getD-set-same s 0 1 0 (omega (arith, zeros-long 65536 s e))
+    start = getD-set-same s 0 1 0 (omega (arith, zeros-long lent-hops s e))
 
 -- FLAGS THAT NO LINK MOVES
 module _ (w : Wiring) (s : List ℕ) (flagged : Flagged w s)

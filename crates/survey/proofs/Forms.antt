@@ -18,8 +18,8 @@ use Rattle.rack.proofs.Paths.{link-joins}
 use Rattle.rack.proofs.Crossing.{Rack}
 use Rattle.rack.proofs.Refusals.{Joins-cards, joined-rack, lowest-fault-clear, link-fault-clear}
 use Rattle.rack.proofs.WiringFile.{Sized, sizes-clear, wiring-at-cards, wiring-at-count}
-use Rattle.survey.specs.Formed.{Fault-is, Sizes-are, Formed}
-use Rattle.survey.specs.declared.links.Fault.{Fault}
+use Rattle.survey.specs.Formed.{Refused-is, Sizes-are, Formed}
+use Rattle.survey.specs.declared.links.Refused.{Refused}
 
 -- 2 TO 5, each where the tests before it pass
 module _ (bs : List ℕ) where
@@ -27,9 +27,9 @@ module _ (bs : List ℕ) where
   unfolding sizes-fault
   sizes-short h = rw (lt-ltb (length bs) 4 h) refl
 
-  pub sizes-no-card : 4 ≤ length bs → number-at bs 0 ≡ 0 → sizes-fault bs ≡ 3
+  pub sizes-zero-cards : 4 ≤ length bs → number-at bs 0 ≡ 0 → sizes-fault bs ≡ 3
   unfolding sizes-fault
-  sizes-no-card h z = rw (le-ltb (length bs) 4 h, z) refl
+  sizes-zero-cards h z = rw (le-ltb (length bs) 4 h, z) refl
 
   pub sizes-many-cards : 4 ≤ length bs → most-cards < number-at bs 0 → sizes-fault bs ≡ 3
   unfolding sizes-fault
@@ -116,6 +116,6 @@ module _ (bs : List ℕ) (n m : ℕ) (f : Formed bs n m) where
           let h : at .0 < m = omega (arith, formed-count, at .1) in
           subst (Joins-cards (file-wiring bs)) (at .2) (formed-first (at .0) h, formed-second (at .0) h, f .apart (at .0) h)
 
--- a fault with the number and the place of a refusal
-pub fault-is : (r : Fault) (f : Refusal) (x i : ℕ) → r .number ≡ x → r .at ≡ i → f ≡ refusal x i → Fault-is r f
-fault-is r f x i a b e = record { number = rw e a; at = rw e b }
+-- what was said has the number and the place of a refusal
+pub refused-is : (r : Refused) (f : Refusal) (x i : ℕ) → r .number ≡ x → r .at ≡ i → f ≡ refusal x i → Refused-is r f
+refused-is r f x i a b e = record { number = rw e a; at = rw e b }

@@ -10,6 +10,7 @@ use lib.ListN.{set, take, replicate, length-set}
 use lib.Seq.{take-suc, getD-set-same, getD-set-other}
 use borrow.Author.Tests.{le-leb, lt-leb, eq-eqb, ne-eqb}
 use lib.Dec.{leb}
+use Rattle.rack.specs.Limits.{lent-hops}
 use Rattle.rack.specs.Lists.{one, count}
 use Rattle.rack.specs.Wiring.{Link, Wiring, link, link-count, link-at, joins}
 use Rattle.rack.specs.Refusals.{most-parallel, refusal, link-fault, links-refusal}
@@ -22,11 +23,11 @@ use Rattle.survey.specs.Marks.{Marked}
 use Rattle.rack.proofs.Zeros.{zeros-long, zeros-at}
 
 -- MARKS
-pub none-marked : (w : Wiring) (h : List ℕ) → h ≡ replicate 65536 0 → Marked w 0 h
+pub none-marked : (w : Wiring) (h : List ℕ) → h ≡ replicate lent-hops 0 → Marked w 0 h
 none-marked w h e =
     record {
-      long = zeros-long 65536 h e;
-      is = λ a b ha hb n. zeros-at 65536 h e (256 * a + b);
+      long = zeros-long lent-hops h e;
+      is = λ a b ha hb n. zeros-at lent-hops h e (256 * a + b);
     }
 
 joins-sym : (a b : ℕ) (l : Link) → joins a b l ≡ joins b a l

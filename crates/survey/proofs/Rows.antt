@@ -6,6 +6,7 @@ use Prim.Native.Nat.{ℕ, zero, suc, _+_, _*_, _-_, _≤_, _<_, min, max}
 use native.Mathlib.Omega.{arith}
 use lib.ListN.{length, getD, set, length-set}
 use lib.Seq.{getD-set-same, getD-set-other, set-getD}
+use Rattle.rack.specs.Limits.{lent-hops}
 use Rattle.rack.specs.Wiring.{Wiring}
 use Rattle.rack.specs.Hops.{hops}
 use Rattle.rack.proofs.Logic.{by-eq, by-lt}
@@ -31,7 +32,7 @@ lowered-none h to by =
     }
 
 -- one place more, lowered to z
-module _ (old new : List ℕ) (to by b off z off′ : ℕ) (p : Lowered old new to by b off) (hb : b < 256) (long : length old ≡ 65536) (ht : to < 256)
+module _ (old new : List ℕ) (to by b off z off′ : ℕ) (p : Lowered old new to by b off) (hb : b < 256) (long : length old ≡ lent-hops) (ht : to < 256)
     (ez : z ≡ min (cell new to b) (cell new by b + 1)) (eo : off′ ≡ max off (cell new to b - z)) where
   by-unchanged : cell new by b ≡ cell old by b
   by-unchanged = by-lt by to (λ l. p .before (256 * by + b) (omega arith)) (λ l. p .after (256 * by + b) (omega arith))

@@ -6,14 +6,14 @@ use mathlib.Core.List.{List}
 use Prim.Native.Nat.{ℕ, _+_, _≤_, _<_}
 use lib.Dec.{eqb}
 use lib.ListN.{length, getD}
-use Rattle.rack.specs.Limits.{lent-hops}
+use Rattle.rack.specs.Limits.{lent-hops, most-cards}
 use Rattle.rack.specs.Lists.{count, range}
 use Rattle.rack.specs.Wiring.{Wiring, link-at}
 use Rattle.rack.specs.Hops.{hops}
 
 -- how many of 256 cards are flagged
 unfoldable pub flags : List ℕ → ℕ
-flags s = count (λ c. not (eqb (getD s c 0) 0)) (range 256)
+flags s = count (λ c. not (eqb (getD s c 0) 0)) (range most-cards)
 
 -- 1 at card 0 and at some cards that can be reached from it, else 0
 pub record Flagged (w : Wiring) (s : List ℕ) : Type 0 where

@@ -9,10 +9,10 @@ use Rattle.rack.specs.Limits.{most-cards, most-links}
 use Rattle.rack.specs.Buffers.{number-at}
 use Rattle.rack.specs.WiringFile.{file-wiring}
 use Rattle.rack.specs.Refusals.{Refusal}
-use Rattle.survey.specs.declared.links.Fault.{Fault}
+use Rattle.survey.specs.declared.links.Refused.{Refused}
 
--- a fault is a refusal
-pub record Fault-is (r : Fault) (f : Refusal) : Type 0 where
+-- what was said is a refusal of the definitions
+pub record Refused-is (r : Refused) (f : Refusal) : Type 0 where
   pub number : r .number ≡ f .number
   pub at : r .at ≡ f .at
 

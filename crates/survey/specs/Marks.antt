@@ -4,11 +4,11 @@ use mathlib.Core.Logic.{_≢_}
 use mathlib.Core.List.{List}
 use Prim.Native.Nat.{ℕ, _<_}
 use lib.ListN.{length, take}
-use Rattle.rack.specs.Limits.{lent-hops}
+use Rattle.rack.specs.Limits.{lent-hops, most-cards}
 use Rattle.rack.specs.Lists.{count}
 use Rattle.rack.specs.Wiring.{Wiring, joins}
 use Rattle.survey.specs.Tables.{cell}
 
 pub record Marked (w : Wiring) (i : ℕ) (h : List ℕ) : Type 0 where
   pub long : length h ≡ lent-hops
-  pub is : (a b : ℕ) → a < 256 → b < 256 → a ≢ b → cell h a b ≡ count (joins a b) (take i (w .links))
+  pub is : (a b : ℕ) → a < most-cards → b < most-cards → a ≢ b → cell h a b ≡ count (joins a b) (take i (w .links))

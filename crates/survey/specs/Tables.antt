@@ -3,13 +3,13 @@ use mathlib.Core.Path.{_≡_}
 use mathlib.Core.List.{List, [], _∷_}
 use Prim.Native.Nat.{ℕ, _+_, _*_, _≤_, _<_}
 use lib.ListN.{length, getD}
-use Rattle.rack.specs.Limits.{lent-hops}
+use Rattle.rack.specs.Limits.{lent-hops, most-cards}
 use Rattle.rack.specs.Wiring.{Wiring}
 use Rattle.rack.specs.Hops.{hops}
 
 -- row a, place b
 abbrev pub cell : List ℕ → (a b : ℕ) → ℕ
-cell h a b = getD h (256 * a + b) 0
+cell h a b = getD h (most-cards * a + b) 0
 
 -- the sum of a list
 unfoldable pub total : List ℕ → ℕ
@@ -20,5 +20,5 @@ total (x ∷ xs) = x + total xs
 pub record Hops-in (w : Wiring) (h : List ℕ) : Type 0 where
   pub long : length h ≡ lent-hops
   pub is : (a b : ℕ) → a < w .cards → b < w .cards → cell h a b ≡ hops w a b
-  pub rows : (a b : ℕ) → b < 256 → w .cards ≤ a → cell h a b ≡ 0
-  pub places : (a b : ℕ) → b < 256 → w .cards ≤ b → cell h a b ≡ 0
+  pub rows : (a b : ℕ) → b < most-cards → w .cards ≤ a → cell h a b ≡ 0
+  pub places : (a b : ℕ) → b < most-cards → w .cards ≤ b → cell h a b ≡ 0

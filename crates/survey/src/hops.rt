@@ -7,18 +7,18 @@ ghost use Rattle.rack.specs.Limits.{lent-hops, most-cards};
 ghost use Rattle.rack.specs.Hops.{connected};
 ghost use Rattle.rack.specs.WiringFile.{file-wiring};
 ghost use Rattle.rack.specs.Refusals.{parity-refusal};
-ghost use Rattle.survey.specs.Formed.{Fault-is, Formed};
+ghost use Rattle.survey.specs.Formed.{Refused-is, Formed};
 ghost use Rattle.survey.specs.Tables.{Hops-in};
 ghost use Rattle.survey.specs.Lowering.{Above, Lowered, Passed, Row-filled, Started, Swept, place-bound, row-bound};
-use crate::links::Fault;
+use crate::links::Refused;
 use crate::order::wide;
 use rack::bytes::first_end;
 use rack::bytes::second_end;
 use rack::limits::MOST_CARDS;
 use rack::limits::MOST_LINKS;
 
-// The lesser of `x` and one more than `y`.
-fn lesser(x: u8, y: u8) -> u8
+// `x` lowered to one more than `y` where that is less.
+fn lowered(x: u8, y: u8) -> u8
     ensures { λ r. ⌜ r ≡ min x (y + 1) ⌝ }
 {
     if y < x { y + 1 } else { x }
@@ -33,14 +33,14 @@ fn larger(x: u8, y: u8) -> u8
 // Lowers row `to` to one more than row `by` where that is less; gives the most that was taken off at one place.
 fn lower_row(bounds: &mut [u8], to: usize, by: usize) -> u8
     requires { ⌜ (length (now bounds) ≡ lent-hops) × (to < most-cards) × (by < most-cards) ⌝ }
-    ensures { λ r. ⌜ Lowered (now (bounds .entry)) (now (bounds .exit)) to by 256 r ⌝ }
+    ensures { λ r. ⌜ Lowered (now (bounds .entry)) (now (bounds .exit)) to by most-cards r ⌝ }
 {
     let mut off: u8 = 0;
     let mut b: usize = 0;
     while b < MOST_CARDS {
-        let x = bounds[256 * to + b];
-        let z = lesser(x, bounds[256 * by + b]);
-        bounds[256 * to + b] = z;
+        let x = bounds[MOST_CARDS * to + b];
+        let z = lowered(x, bounds[MOST_CARDS * by + b]);
+        bounds[MOST_CARDS * to + b] = z;
         off = larger(off, x - z);
         b += 1;
     }
@@ -108,10 +108,12 @@ fn sweep_on(file: &[u8], n: usize, m: usize, order: &[u16; MOST_LINKS], bounds: 
     }
 }
 
-// Lowers until no link lowers any bound: relaxation, as Bellman and Ford do, over rows of bytes. The order only saves passes: the
-// last pass, over every link, decides. How many: where the bounds of all cards up to d hops apart are hops, they are so for d + 1 after
-// a sweep over every link, since the last link of a shortest path is among them. A round of the loop has three sweeps, so a third of
-// the diameter in rounds is enough, and one round more that lowers nothing: at most 86 for 256 cards.
+// Lowers until no link lowers any bound. The order only saves sweeps: the last one of a round, over every link, decides. How many rounds:
+// let all pairs of cards up to d hops apart have their hops as bounds, as they have at the start with d = 0. Where a and b are d + 1 hops
+// apart, a neighbour p of a is d hops from b, and a sweep, when it comes to the link of a and p, lowers row a at place b to d + 1. No
+// bound falls below hops, so after s sweeps all pairs up to s hops apart have theirs. A round has three sweeps (every link of a connected
+// rack stands in the order once), and it is the last if its third one lowers nothing, as where the two before it made all bounds hops.
+// So a third of the diameter, rounded down, and one more are enough: at most 86 rounds for 256 cards.
 fn settle(file: &[u8], n: usize, m: usize, order: &[u16; MOST_LINKS], bounds: &mut [u8])
     requires { ⌜ Formed (now file) n m × Above (file-wiring (now file)) (now bounds) ⌝ }
     ensures { λ _. ⌜ Hops-in (file-wiring (now (file .entry))) (now (bounds .exit)) ⌝ }
@@ -148,11 +150,11 @@ fn place_bound(n: usize, b: usize, bound: u8) -> u8
 // Fills row `a` with a bound at each of the `n` cards.
 fn fill_row(n: usize, a: usize, bound: u8, bounds: &mut [u8])
     requires { ⌜ (a < most-cards) × (length (now bounds) ≡ lent-hops) ⌝ }
-    ensures { λ _. ⌜ Row-filled n bound (now (bounds .entry)) (now (bounds .exit)) a 256 ⌝ }
+    ensures { λ _. ⌜ Row-filled n bound (now (bounds .entry)) (now (bounds .exit)) a most-cards ⌝ }
 {
     let mut b: usize = 0;
     while b < MOST_CARDS {
-        bounds[256 * a + b] = place_bound(n, b, bound);
+        bounds[MOST_CARDS * a + b] = place_bound(n, b, bound);
         b += 1;
     }
 }
@@ -163,13 +165,13 @@ fn start_row(n: usize, a: usize, bounds: &mut [u8])
     ensures { λ _. ⌜ Started n (now (bounds .exit)) (a + 1) ⌝ }
 {
     fill_row(n, a, row_bound(n, a), bounds);
-    bounds[256 * a + a] = 0;
+    bounds[MOST_CARDS * a + a] = 0;
 }
 
 // Fills the table with those bounds.
 fn start_bounds(n: usize, bounds: &mut [u8])
     requires { ⌜ (n ≤ most-cards) × (length (now bounds) ≡ lent-hops) ⌝ }
-    ensures { λ _. ⌜ Started n (now (bounds .exit)) 256 ⌝ }
+    ensures { λ _. ⌜ Started n (now (bounds .exit)) most-cards ⌝ }
 {
     let mut a: usize = 0;
     while a < MOST_CARDS {
@@ -188,21 +190,21 @@ pub fn all_hops(file: &[u8], n: usize, m: usize, order: &[u16; MOST_LINKS], hops
 }
 
 // The lowest link whose ends have equal hops from card 0, with 10.
-pub fn parity_fault(file: &[u8], n: usize, m: usize, hops: &[u8]) -> Fault
+pub fn parity_refusal(file: &[u8], n: usize, m: usize, hops: &[u8]) -> Refused
     requires { ⌜ Formed (now file) n m × Hops-in (file-wiring (now file)) (now hops) ⌝ }
-    ensures { λ r. ⌜ Fault-is r (parity-refusal (file-wiring (now (file .entry)))) ⌝ }
+    ensures { λ r. ⌜ Refused-is r (parity-refusal (file-wiring (now (file .entry)))) ⌝ }
 {
     let mut i: usize = 0;
     while i < m {
         let p = first_end(file, 4, m, i);
         let q = second_end(file, 4, m, i);
         if hops[p] == hops[q] {
-            return Fault {
+            return Refused {
                 number: 10,
                 at: i as u32,
             };
         }
         i += 1;
     }
-    Fault { number: 0, at: 0 }
+    Refused { number: 0, at: 0 }
 }

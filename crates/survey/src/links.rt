@@ -5,7 +5,7 @@ ghost use lib.ListN.{length, replicate};
 ghost use Rattle.rack.specs.Limits.{lent-hops};
 ghost use Rattle.rack.specs.WiringFile.{file-wiring, sizes-fault};
 ghost use Rattle.rack.specs.Refusals.{link-fault, links-refusal};
-ghost use Rattle.survey.specs.Formed.{Fault-is, Sizes-are};
+ghost use Rattle.survey.specs.Formed.{Refused-is, Sizes-are};
 ghost use Rattle.survey.specs.Marks.{Marked};
 use rack::bytes::first_end;
 use rack::bytes::number_at;
@@ -14,7 +14,7 @@ use rack::limits::MOST_CARDS;
 use rack::limits::MOST_LINKS;
 
 // A refusal's number, 0 for none, and the link or card that it carries.
-pub struct Fault {
+pub struct Refused {
     pub number: u32,
     pub at: u32,
 }
@@ -63,31 +63,31 @@ fn link_fault(file: &[u8], n: usize, m: usize, i: usize, marks: &mut [u8]) -> u3
     if p == q {
         return 7;
     }
-    let earlier = marks[256 * p + q];
+    let earlier = marks[MOST_CARDS * p + q];
     if MOST_PARALLEL <= earlier {
         return 8;
     }
-    marks[256 * p + q] = earlier + 1;
-    marks[256 * q + p] = earlier + 1;
+    marks[MOST_CARDS * p + q] = earlier + 1;
+    marks[MOST_CARDS * q + p] = earlier + 1;
     0
 }
 
 // The lowest link in fault, with 6, 7 or 8. The marks are zero at entry.
-pub fn links_fault(file: &[u8], n: usize, m: usize, marks: &mut [u8]) -> Fault
+pub fn links_refusal(file: &[u8], n: usize, m: usize, marks: &mut [u8]) -> Refused
     requires { ⌜ Sizes-are (now file) n m × (now marks ≡ replicate lent-hops 0) ⌝ }
-    ensures is { λ r. ⌜ Fault-is r (links-refusal (file-wiring (now (file .entry)))) ⌝ }
+    ensures is { λ r. ⌜ Refused-is r (links-refusal (file-wiring (now (file .entry)))) ⌝ }
     ensures long { λ r. ⌜ length (now (marks .exit)) ≡ lent-hops ⌝ }
 {
     let mut i: usize = 0;
     while i < m {
         let x = link_fault(file, n, m, i, marks);
         if x != 0 {
-            return Fault {
+            return Refused {
                 number: x,
                 at: i as u32,
             };
         }
         i += 1;
     }
-    Fault { number: 0, at: 0 }
+    Refused { number: 0, at: 0 }
 }

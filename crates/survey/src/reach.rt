@@ -6,9 +6,9 @@ ghost use Rattle.rack.specs.Wiring.{Wiring};
 ghost use lib.ListN.{length, replicate};
 ghost use Rattle.rack.specs.WiringFile.{file-wiring};
 ghost use Rattle.rack.specs.Refusals.{reach-refusal};
-ghost use Rattle.survey.specs.Formed.{Fault-is, Formed};
+ghost use Rattle.survey.specs.Formed.{Refused-is, Formed};
 ghost use Rattle.survey.specs.Flags.{Flagged, Reached, Spread};
-use crate::links::Fault;
+use crate::links::Refused;
 use crate::order::wide;
 use rack::bytes::first_end;
 use rack::bytes::second_end;
@@ -82,33 +82,33 @@ fn reach(file: &[u8], n: usize, m: usize, order: &[u16; MOST_LINKS], flags: &mut
 }
 
 // The lowest card without a flag, with 9.
-fn first_unflagged(n: usize, flags: &[u8]) -> Fault
+fn first_unflagged(n: usize, flags: &[u8]) -> Refused
     requires { ⌜ (n ≤ most-cards) × (length (now flags) ≡ lent-hops) ⌝ }
-    ensures { λ r. ⌜ ((w : Wiring) → w .cards ≡ n → Reached w (now (flags .entry)) → Fault-is r (reach-refusal w)) ⌝ }
+    ensures { λ r. ⌜ ((w : Wiring) → w .cards ≡ n → Reached w (now (flags .entry)) → Refused-is r (reach-refusal w)) ⌝ }
 {
     let mut c: usize = 0;
     while c < n {
         if flags[c] == 0 {
-            return Fault {
+            return Refused {
                 number: 9,
                 at: c as u32,
             };
         }
         c += 1;
     }
-    Fault { number: 0, at: 0 }
+    Refused { number: 0, at: 0 }
 }
 
 // The lowest card that can't be reached from card 0, with 9. The flags are zero at entry.
-pub fn reach_fault(
+pub fn reach_refusal(
     file: &[u8],
     n: usize,
     m: usize,
     order: &[u16; MOST_LINKS],
     flags: &mut [u8],
-) -> Fault
+) -> Refused
     requires { ⌜ Formed (now file) n m × (now flags ≡ replicate lent-hops 0) ⌝ }
-    ensures is { λ r. ⌜ Fault-is r (reach-refusal (file-wiring (now (file .entry)))) ⌝ }
+    ensures is { λ r. ⌜ Refused-is r (reach-refusal (file-wiring (now (file .entry)))) ⌝ }
     ensures long { λ r. ⌜ length (now (flags .exit)) ≡ lent-hops ⌝ }
 {
     reach(file, n, m, order, flags);

@@ -6,6 +6,7 @@ use lib.ListN.{length, length-replicate}
 use Rattle.survey.proofs.Forms.{formed-cards, formed-count, formed-rack}
 use Rattle.planner.proofs.MeasuredPairs.{measured-addressed, unmeasured-addressed, full-addressed}
 use borrow.Author.Needs.{needs}
+use Rattle.rack.specs.Limits.{lent-words}
 use Rattle.planner.proofs.address_cards.Statement.{statement}
 use Rattle.planner.proofs.address_cards.Tie as tie
 
@@ -33,7 +34,7 @@ pairs-measure-requires c κs =
     let at-pre = at-ones-table .before .before .before .before in (
       at-ones-table .ones-table .ensures,
       at-open-columns .open-columns .kept .1 .1 .1 .1 .1 .0 ∙ ap length (at-pre .pre .3)
-          ∙ length-replicate {A = ℕ} 1024 0,
+          ∙ length-replicate {A = ℕ} lent-words 0,
       at-pre .pre .2 .long,
       at-pre .pre .0 .sizes .few,
     )

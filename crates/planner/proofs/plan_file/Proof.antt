@@ -3,6 +3,7 @@ use mathlib.Core.Path.{sym, _∙_, ap}
 use Prim.Native.Nat.{ℕ}
 use native.Mathlib.Omega.{arith}
 use lib.ListN.{replicate}
+use Rattle.rack.specs.Limits.{lent-hops, lent-words}
 use Rattle.rack.proofs.WiringFile.{sizes-clear}
 use Rattle.rack.proofs.Zeros.{zeros-long}
 use Rattle.survey.proofs.Forms.{sizes-are}
@@ -19,7 +20,7 @@ returns : tie.Need-returns
 returns c =
     let at-pre = c .before .before .before .before .before in
     sizes-planned _ _ _ (c .before .sizes-fault .result) (c .before .sizes-fault .ensures) (c .if1 .taken)
-    (zeros-long 1024 _ (at-pre .pre .0)) (zeros-long 65536 _ (at-pre .pre .1))
+    (zeros-long lent-words _ (at-pre .pre .0)) (zeros-long lent-hops _ (at-pre .pre .1))
 
 number-at-requires : tie.Need-number-at-requires
 number-at-requires c κs = omega (arith, sizes-clear _ (sym (c .before .sizes-fault .ensures) ∙ c .if1 .left) .head)
@@ -27,8 +28,8 @@ number-at-requires c κs = omega (arith, sizes-clear _ (sym (c .before .sizes-fa
 number-at-requires-2 : tie.Need-number-at-requires-2
 number-at-requires-2 c κs = omega (arith, sizes-clear _ (sym (c .before .before .sizes-fault .ensures) ∙ c .before .if1 .left) .head)
 
-links-fault-requires : tie.Need-links-fault-requires
-links-fault-requires c κs =
+links-refusal-requires : tie.Need-links-refusal-requires
+links-refusal-requires c κs =
     let at-if1 = c .before .before .before in
     let at-sizes-fault = at-if1 .before in
     let at-pre = at-sizes-fault .before .before .before .before in (
@@ -42,13 +43,13 @@ same-length c = search needs
 
 returns-2 : tie.Need-returns-2
 returns-2 c =
-    let at-links-fault = c .before .before .before .before in
-    let at-if1 = at-links-fault .before .before .before .before in
+    let at-links-refusal = c .before .before .before .before in
+    let at-if1 = at-links-refusal .before .before .before .before in
     let at-sizes-fault = at-if1 .before in
     let at-pre = at-sizes-fault .before .before .before .before in
     links-planned _ _ _ (sym (at-sizes-fault .sizes-fault .ensures) ∙ at-if1 .if1 .left)
-    (at-links-fault .links-fault .result) (at-links-fault .links-fault .ensures .0) (c .if2 .taken)
-    (zeros-long 1024 _ (at-pre .pre .0)) (at-links-fault .links-fault .ensures .1)
+    (at-links-refusal .links-refusal .result) (at-links-refusal .links-refusal .ensures .0) (c .if2 .taken)
+    (zeros-long lent-words _ (at-pre .pre .0)) (at-links-refusal .links-refusal .ensures .1)
 
 clear-bytes-requires : tie.Need-clear-bytes-requires
 clear-bytes-requires c κs = search needs
@@ -57,17 +58,17 @@ plan-formed-requires : tie.Need-plan-formed-requires
 plan-formed-requires c κs =
     let at-clear-bytes = c .before .before .before .before in
     let at-if2 = at-clear-bytes .before .before in
-    let at-links-fault = at-if2 .before .before .before .before in
-    let at-number-at2 = at-links-fault .before .before in
+    let at-links-refusal = at-if2 .before .before .before .before in
+    let at-number-at2 = at-links-refusal .before .before in
     let at-number-at = at-number-at2 .before in
     let at-if1 = at-number-at .before in
     let at-sizes-fault = at-if1 .before in
     let at-pre = at-sizes-fault .before .before .before .before in (
       links-formed _ [] [] (sym (at-sizes-fault .sizes-fault .ensures) ∙ at-if1 .if1 .left)
-          (at-links-fault .links-fault .result) (at-links-fault .links-fault .ensures .0) _ _
+          (at-links-refusal .links-refusal .result) (at-links-refusal .links-refusal .ensures .0) _ _
           (at-number-at .number-at .ensures .0) (at-number-at2 .number-at2 .ensures .0) (at-if2 .if2 .left),
       at-pre .pre .0,
-      at-clear-bytes .clear-bytes .ensures ∙ ap (λ (k : ℕ). replicate k 0) (at-links-fault .links-fault .ensures .1),
+      at-clear-bytes .clear-bytes .ensures ∙ ap (λ (k : ℕ). replicate k 0) (at-links-refusal .links-refusal .ensures .1),
     )
 
 same-length-2 : tie.Need-same-length-2
@@ -80,11 +81,11 @@ returns-3 : tie.Need-returns-3
 returns-3 c =
     let at-plan-formed = c .before .before .before .before in
     let at-if2 = at-plan-formed .before .before .before .before .before .before .before in
-    let at-links-fault = at-if2 .before .before .before .before in
-    let at-if1 = at-links-fault .before .before .before .before in
+    let at-links-refusal = at-if2 .before .before .before .before in
+    let at-if1 = at-links-refusal .before .before .before .before in
     let at-sizes-fault = at-if1 .before in
     rack-file-planned _ _ _ (sym (at-sizes-fault .sizes-fault .ensures) ∙ at-if1 .if1 .left)
-    (at-links-fault .links-fault .result) (at-links-fault .links-fault .ensures .0) _ (at-if2 .if2 .left) (at-plan-formed .plan-formed .ensures)
+    (at-links-refusal .links-refusal .result) (at-links-refusal .links-refusal .ensures .0) _ (at-if2 .if2 .left) (at-plan-formed .plan-formed .ensures)
 
 pub plan-file-spec : {M : Type 1} → statement M
 plan-file-spec =
@@ -94,7 +95,7 @@ plan-file-spec =
     returns
     number-at-requires
     number-at-requires-2
-    links-fault-requires
+    links-refusal-requires
     same-length
     returns-2
     clear-bytes-requires

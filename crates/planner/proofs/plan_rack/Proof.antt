@@ -8,6 +8,7 @@ use borrow.Author.Tests.{ne-eqb}
 use Rattle.planner.proofs.PlanAnswer.{plan-says-one, plan-says-found, plan-says-refused}
 use Rattle.planner.proofs.PlanPromise.{addresses-found}
 use borrow.Author.Needs.{needs}
+use Rattle.rack.specs.Limits.{lent-hops, lent-words}
 use Rattle.planner.proofs.plan_rack.Statement.{statement}
 use Rattle.planner.proofs.plan_rack.Tie as tie
 
@@ -15,15 +16,15 @@ returns : tie.Need-returns
 returns c =
     let says = plan-says-one (c .before .before .before .before .args .file .now) _
     (c .before .before .before .before .args .words .now) (c .before .before .before .before .args .hops .now)
-    (rw (ne-eqb (length (c .before .before .before .before .args .words .now)) 1024 (c .if1 .taken)) refl) refl refl refl in
+    (rw (ne-eqb (length (c .before .before .before .before .args .words .now)) lent-words (c .if1 .taken)) refl) refl refl refl in
     (says, λ a. addresses-found _ _ _ _ _ _ a says)
 
 returns-2 : tie.Need-returns-2
 returns-2 c =
     let at-args = c .before .before .before .before .before in
     let says = plan-says-one (at-args .args .file .now) _ (at-args .args .words .now) (at-args .args .hops .now)
-    (rw (ne-eqb (length (at-args .args .hops .now)) 65536 (c .if2 .taken))
-    (and-false (eqb (length (at-args .args .words .now)) 1024))) refl refl refl in
+    (rw (ne-eqb (length (at-args .args .hops .now)) lent-hops (c .if2 .taken))
+    (and-false (eqb (length (at-args .args .words .now)) lent-words))) refl refl refl in
     (says, λ a. addresses-found _ _ _ _ _ _ a says)
 
 clear-words-requires : tie.Need-clear-words-requires

@@ -3,7 +3,7 @@ use mathlib.Core.Path.{_≡_, ap, _∙_}
 use Prim.Native.Nat.{ℕ, _+_, _*_, _-_, _/_, _%_, _≤_}
 use native.Mathlib.Omega.{arith}
 use lib.ListN.{getD}
-use Rattle.planner.specs.Opening.{side-in, Column-added}
+use Rattle.planner.specs.OpenColumns.{side-in, Column-added}
 use Rattle.planner.proofs.AddedColumn.{weighed, bit-fits, none-added, more-added}
 use Rattle.planner.proofs.columns.add_column.Statement.{statement}
 use Rattle.planner.proofs.columns.add_column.Tie as tie

@@ -3,20 +3,20 @@ use mathlib.Core.Path.{_≡_, sym, _∙_}
 use Prim.Native.Nat.{_-_, _≤_, _<_}
 use native.Mathlib.Omega.{arith}
 use Rattle.rack.specs.WiringFile.{file-wiring}
-use Rattle.planner.specs.Opening.{Opened}
+use Rattle.planner.specs.OpenColumns.{Columns-opened}
 use Rattle.planner.proofs.AddressWords.{zero-words}
-use Rattle.planner.proofs.OpenedLinks.{none-opened, full-opened}
+use Rattle.planner.proofs.LinkColumns.{no-columns-opened, full-columns-opened}
 use Rattle.planner.proofs.columns.open_columns.Statement.{statement}
 use Rattle.planner.proofs.columns.open_columns.Tie as tie
 
 abbrev Inv-loop : tie.InvT-loop
-Inv-loop ones file n m hops words₀ k₀ i₀ words k i = (i ≤ m) × (k < n) × Opened (file-wiring file) n i words k
+Inv-loop ones file n m hops words₀ k₀ i₀ words k i = (i ≤ m) × (k < n) × Columns-opened (file-wiring file) n i words k
 
 abbrev μ-loop : tie.MeasureT-loop
 μ-loop ones file n m hops words₀ k₀ i₀ words k i = m - i
 
 loop-holds : tie.Need-loop-holds Inv-loop μ-loop
-loop-holds c = let s = c .before .before .before in (omega arith, s .pre .1 .sizes .some, none-opened _ _ _ (s .pre .1 .sizes .some) (s .pre .3))
+loop-holds c = let s = c .before .before .before in (omega arith, s .pre .1 .sizes .some, no-columns-opened _ _ _ (s .pre .1 .sizes .some) (s .pre .3))
 
 open-link-requires : tie.Need-open-link-requires Inv-loop μ-loop
 open-link-requires c κs =
@@ -32,7 +32,7 @@ same-length c =
     (zero-words 0 _ (at-pre .pre .3) .long)
 
 returns : tie.Need-returns Inv-loop μ-loop
-returns c = full-opened _ _ _ _ _ _ (omega arith) (c .if1 .taken) (c .before .before .before .open-link .ensures)
+returns c = full-columns-opened _ _ _ _ _ _ (omega arith) (c .if1 .taken) (c .before .before .before .open-link .ensures)
 
 add-i : tie.Need-add-i Inv-loop μ-loop
 add-i c = omega arith

@@ -1,7 +1,7 @@
 -- No differing place of the ends' words is no column that separates the ends: then the link's column is added, if there is room. Assumes nothing.
 use native.Mathlib.Omega.{arith}
 use borrow.Author.Needs.{needs}
-use Rattle.planner.proofs.OpenedLinks.{At-link, link-separated, link-full, link-free, link-added}
+use Rattle.planner.proofs.LinkColumns.{At-link, link-separated, link-full, link-free, link-added}
 use Rattle.planner.proofs.columns.open_link.Statement.{statement}
 use Rattle.planner.proofs.columns.open_link.Tie as tie
 

@@ -5,7 +5,7 @@ use Prim.Native.Nat.{ℕ, _+_, _*_, _-_, _≤_, _<_}
 use native.Mathlib.Omega.{arith}
 use borrow.Author.Count.{below-more}
 use Rattle.survey.specs.Tables.{cell}
-use Rattle.planner.specs.Opening.{words-hamming, Pairs-measure}
+use Rattle.planner.specs.OpenColumns.{words-hamming, Pairs-measure}
 use Rattle.planner.proofs.MeasuredPairs.{no-pairs, more-pairs}
 use Rattle.planner.proofs.pairs.pairs_measure.Statement.{statement}
 use Rattle.planner.proofs.pairs.pairs_measure.Tie as tie

@@ -25,17 +25,17 @@ add-x c = omega arith
 slice-read-x : tie.Need-slice-read-x Inv-loop μ-loop
 slice-read-x c = omega arith
 
-mul-lesser : tie.Need-mul-lesser Inv-loop μ-loop
-mul-lesser c = omega arith
+mul-lowered : tie.Need-mul-lowered Inv-loop μ-loop
+mul-lowered c = omega arith
 
-add-lesser : tie.Need-add-lesser Inv-loop μ-loop
-add-lesser c = omega arith
+add-lowered : tie.Need-add-lowered Inv-loop μ-loop
+add-lowered c = omega arith
 
-slice-read-lesser : tie.Need-slice-read-lesser Inv-loop μ-loop
-slice-read-lesser c = omega arith
+slice-read-lowered : tie.Need-slice-read-lowered Inv-loop μ-loop
+slice-read-lowered c = omega arith
 
-lesser-requires : tie.Need-lesser-requires Inv-loop μ-loop
-lesser-requires c κs = omega arith
+lowered-requires : tie.Need-lowered-requires Inv-loop μ-loop
+lowered-requires c κs = omega arith
 
 mul-bounds : tie.Need-mul-bounds Inv-loop μ-loop
 mul-bounds c = omega arith
@@ -62,7 +62,7 @@ loop-again : tie.Need-loop-again Inv-loop μ-loop
 loop-again c = (
   omega arith,
   lowered-more _ _ _ _ _ _ _ _ (c .before .before .before .before .before .loop .inv .1) (omega arith) (omega arith) (omega arith)
-      (c .before .lesser .ensures) (c .larger .ensures),
+      (c .before .lowered .ensures) (c .larger .ensures),
 )
 
 same-length : tie.Need-same-length Inv-loop μ-loop
@@ -81,10 +81,10 @@ lower-row-spec =
     mul-x
     add-x
     slice-read-x
-    mul-lesser
-    add-lesser
-    slice-read-lesser
-    lesser-requires
+    mul-lowered
+    add-lowered
+    slice-read-lowered
+    lowered-requires
     mul-bounds
     add-bounds
     slice-write-bounds

@@ -1,5 +1,5 @@
 -- `links::sizes_fault` meets its contract: each return stands where the tests before it passed, and these are the tests of `sizes-fault` in their order. Assumes nothing.
-use Rattle.survey.proofs.Forms.{sizes-short, sizes-no-card, sizes-many-cards, sizes-many-links, sizes-other-length}
+use Rattle.survey.proofs.Forms.{sizes-short, sizes-zero-cards, sizes-many-cards, sizes-many-links, sizes-other-length}
 use Rattle.rack.proofs.WiringFile.{sized-clear}
 use mathlib.Core.Path.{sym}
 use native.Mathlib.Omega.{arith}
@@ -14,7 +14,7 @@ number-at-requires : tie.Need-number-at-requires
 number-at-requires c κs = search needs
 
 returns-2 : tie.Need-returns-2
-returns-2 c = sym (sizes-no-card _ (omega arith) (omega arith))
+returns-2 c = sym (sizes-zero-cards _ (omega arith) (omega arith))
 
 returns-3 : tie.Need-returns-3
 returns-3 c = sym (sizes-many-cards _ (omega arith) (omega arith))

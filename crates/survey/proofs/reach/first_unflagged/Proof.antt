@@ -1,5 +1,5 @@
 -- `reach::first_unflagged` meets its contract. The loop's invariant: every card before `c` is flagged. Assumes nothing.
-use Rattle.survey.proofs.Forms.{fault-is}
+use Rattle.survey.proofs.Forms.{refused-is}
 use Rattle.survey.proofs.Flags.{unflagged-here, unflagged-none}
 use Rattle.rack.proofs.Logic.{by-lt}
 use mathlib.Core.Path.{_≡_, refl}
@@ -26,7 +26,7 @@ cast-t7 : tie.Need-cast-t7 Inv-loop μ-loop
 cast-t7 c = omega arith
 
 returns : tie.Need-returns Inv-loop μ-loop
-returns c = λ w e r. fault-is _ _ _ _ refl refl (unflagged-here w _ r _ (c .before .before .before .loop .inv .1) (omega arith) (c .if1 .taken))
+returns c = λ w e r. refused-is _ _ _ _ refl refl (unflagged-here w _ r _ (c .before .before .before .loop .inv .1) (omega arith) (c .if1 .taken))
 
 add-c : tie.Need-add-c Inv-loop μ-loop
 add-c c = omega arith
@@ -40,7 +40,7 @@ loop-again c =
     (omega arith, λ j h. by-lt j (l .c) (l .inv .1 j) (λ k z. let e : j ≡ l .c = omega arith in c .if1 .left (rw e at z)))
 
 returns-2 : tie.Need-returns-2 Inv-loop μ-loop
-returns-2 c = λ w e r. fault-is _ _ _ _ refl refl (unflagged-none w _ r _ (c .before .loop .inv .1) (omega arith))
+returns-2 c = λ w e r. refused-is _ _ _ _ refl refl (unflagged-none w _ r _ (c .before .loop .inv .1) (omega arith))
 
 pub first-unflagged-spec : {M : Type 1} → statement M
 first-unflagged-spec =

@@ -1,5 +1,6 @@
 -- `reach::reach` meets its contract. The loop's invariant: every flagged card can be reached, and once a pass moved none, all that can be reached are flagged.
 -- A pass adds a flag, of which there are at most 256, or ends the loop. Assumes nothing.
+use Rattle.rack.specs.Limits.{lent-hops}
 use Rattle.rack.proofs.Zeros.{zeros-long}
 use Rattle.survey.proofs.Forms.{cards-are}
 use Rattle.survey.proofs.Flags.{first-flag, few-flags, spread-reached}
@@ -18,7 +19,7 @@ abbrev μ-loop : tie.MeasureT-loop
 μ-loop file n m order flags₀ moved₀ flags moved = 256 - flag-count flags + moved
 
 slice-write-flags : tie.Need-slice-write-flags Inv-loop μ-loop
-slice-write-flags c = omega (arith, zeros-long 65536 _ (c .before .before .pre .1))
+slice-write-flags c = omega (arith, zeros-long lent-hops _ (c .before .before .pre .1))
 
 spread-order-requires : tie.Need-spread-order-requires Inv-loop μ-loop
 spread-order-requires c κs =
