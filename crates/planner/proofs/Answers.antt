@@ -1,5 +1,5 @@
 -- Refusals in the order of their places, and what planning says from what its stages hand on. Assumes nothing.
-use mathlib.Core.Path.{_≡_, refl, _∙_}
+use mathlib.Core.Path.{_≡_, refl, sym, _∙_}
 use mathlib.Core.Bool.{true, false}
 use mathlib.Core.Logic.{_≢_}
 use mathlib.Core.List.{List}
@@ -17,6 +17,7 @@ use Rattle.survey.specs.Tables.{Hops-in}
 use Rattle.planner.specs.OpenColumns.{Words-of}
 use Rattle.planner.specs.Stages.{Planned-as}
 use Rattle.rack.specs.Limits.{lent-words, lent-hops}
+use Rattle.planner.specs.Planning.{Refuses}
 use Rattle.planner.specs.declared.Answer.{Answer}
 
 -- A FILE's refusal is its sizes', its links' or its rack's
@@ -60,19 +61,22 @@ module _ (w : Wiring) where
       ∙ rw (embedding-embeds w (column-count w) (address w) m) refl
 
 -- THE STAGES' answers
-pub planned-refused : (f : Refusal) (w : Wiring) (r : Answer) (ws h : List ℕ) → f ≡ refusal (r .number) (r .at) → r .number ≢ 0 → r .value ≡ 0
+pub planned-refused : (f : Refusal) (w : Wiring) (r : Answer) (ws h : List ℕ) (x i : ℕ) → f ≡ refusal x i → x ≢ 0 → Refuses x i r
     → length ws ≡ lent-words → length h ≡ lent-hops → Planned-as f w r ws h
-planned-refused f w r ws h e n v lw lh =
+planned-refused f w r ws h x i e n a lw lh =
     record {
-      number = rw e refl;
-      at = rw e refl;
-      value = λ z. absurd (n z);
-      no-value = λ z. v;
-      words = λ z. absurd (n z);
-      hops = λ z. absurd (n z);
+      number = rw e (a .number);
+      at = rw e (a .at);
+      value = λ z. absurd (some z);
+      no-value = λ z. a .value;
+      words = λ z. absurd (some z);
+      hops = λ z. absurd (some z);
       long-words = lw;
       long-hops = lh;
     }
+  where
+    some : r .number ≢ 0
+    some z = n (sym (a .number) ∙ z)
 
 pub planned-found : (f : Refusal) (w : Wiring) (r : Answer) (ws h : List ℕ) → f ≡ refusal 0 0 → r .number ≡ 0 → r .at ≡ 0 → r .value ≡ column-count w
     → Words-of (columns w) (w .cards) ws → Hops-in w h → Planned-as f w r ws h

@@ -18,7 +18,7 @@ use Rattle.rack.proofs.WiringFile.{wiring-at-cards, wiring-at-count}
 use Rattle.rack.proofs.Numbers.{file-numbers}
 use Rattle.planner.specs.Stages.{File-planned}
 use Rattle.rack.specs.Limits.{lent-words, lent-hops, most-cards, most-columns, most-links}
-use Rattle.planner.specs.Planning.{all-words, all-hops, left-in, Answer-is, planning-refusal, Plan-says}
+use Rattle.planner.specs.Planning.{all-words, all-hops, left-in, Answer-is, planning-refusal, Plan-says, Refuses}
 use Rattle.planner.specs.declared.Answer.{Answer}
 use Rattle.planner.proofs.Contents.{words-list, hops-list}
 
@@ -55,14 +55,14 @@ pub accepted-links : (bs : List ℕ) → file-refusal bs .number ≡ 0 → link-
 accepted-links bs h = omega (arith, file-clear bs h .0 .links, wiring-at-count 4 bs)
 
 -- PLANNING in buffers of another length
-pub plan-says-one : (bs : List ℕ) (r : Answer) (ws h : List ℕ) → (eqb (length ws) lent-words && eqb (length h) lent-hops) ≡ false → r .number ≡ 1 → r .at ≡ 0 → r .value ≡ 0
+pub plan-says-one : (bs : List ℕ) (r : Answer) (ws h : List ℕ) → (eqb (length ws) lent-words && eqb (length h) lent-hops) ≡ false → Refuses 1 0 r
     → Plan-says bs r ws ws h h
 unfolding planning-refusal
-plan-says-one bs r ws h t n a v =
+plan-says-one bs r ws h t a =
     record {
-      answer = record { number = rw t n; at = rw t a; value = rw t v };
-      words-left = rw n (sym (left-untouched _ ws));
-      hops-left = rw n (sym (left-untouched _ h));
+      answer = record { number = rw t (a .number); at = rw t (a .at); value = rw t (a .value) };
+      words-left = rw (a .number) (sym (left-untouched _ ws));
+      hops-left = rw (a .number) (sym (left-untouched _ h));
     }
 
 -- PLANNING in buffers of their lengths

@@ -25,7 +25,7 @@ use Rattle.survey.specs.Formed.{Sizes-are}
 use Rattle.planner.specs.OpenColumns.{bit-in, Words-of}
 use Rattle.planner.specs.Stages.{File-planned}
 use Rattle.rack.specs.Limits.{lent-plan, most-columns}
-use Rattle.planner.specs.Planning.{writing-refusal, Write-says}
+use Rattle.planner.specs.Planning.{writing-refusal, Refuses, Write-says}
 use Rattle.planner.specs.Writing.{end-pair, word-byte, written-bytes}
 use Rattle.planner.specs.declared.Answer.{Answer}
 use Rattle.planner.proofs.Answers.{refusal-of-rack}
@@ -86,12 +86,12 @@ at-zero bs h =
     (column-count (file-wiring bs)) (address (file-wiring bs)) (a .embedding))
 
 -- WRITING into a buffer of another length
-pub write-says-one : (bs : List ℕ) (r : Answer) (o : List ℕ) → length o ≢ lent-plan → r .number ≡ 1 → r .at ≡ 0 → r .value ≡ 0 → Write-says bs r o o
+pub write-says-one : (bs : List ℕ) (r : Answer) (o : List ℕ) → length o ≢ lent-plan → Refuses 1 0 r → Write-says bs r o o
 unfolding writing-refusal
-write-says-one bs r o t n a v =
+write-says-one bs r o t a =
     record {
-      answer = record { number = rw (ne-eqb (length o) lent-plan t) n; at = rw (ne-eqb (length o) lent-plan t) a; value = rw (ne-eqb (length o) lent-plan t) v };
-      output-left = rw n (sym (left-untouched (plan-bytes (file-wiring bs)) o));
+      answer = record { number = rw (ne-eqb (length o) lent-plan t) (a .number); at = rw (ne-eqb (length o) lent-plan t) (a .at); value = rw (ne-eqb (length o) lent-plan t) (a .value) };
+      output-left = rw (a .number) (sym (left-untouched (plan-bytes (file-wiring bs)) o));
     }
 
 -- WRITING into a buffer of its length, after planning

@@ -42,6 +42,12 @@ pub record Answer-is (f : Refusal) (v : ℕ) (r : Answer) : Type 0 where
   pub at : r .at ≡ f .at
   pub value : r .value ≡ cond (eqb (f .number) 0) v 0
 
+-- a refusal's number, the link or card that it carries, and no value
+pub record Refuses (x i : ℕ) (r : Answer) : Type 0 where
+  pub number : r .number ≡ x
+  pub at : r .at ≡ i
+  pub value : r .value ≡ 0
+
 -- 1, then 2 to 11
 unfoldable pub planning-refusal : List ℕ → (words hop-bytes : ℕ) → Refusal
 planning-refusal bs a b = cond (eqb a lent-words && eqb b lent-hops) (file-refusal bs) (refusal 1 0)

@@ -1,4 +1,15 @@
 // The planner: addresses and hops of a rack, and its plan file, from the bytes of a wiring file.
+//
+// Addresses that differ in as many places as their cards are hops apart embed the rack into a hypercube. Djoković found which racks have
+// them: those without odd loops in which each link p-q parts the cards into two convex sets, those nearer to p and those nearer to q.
+// Winkler found how many columns they have: relate two links where the one joins the two sets of the other; exactly in such a rack this is
+// an equivalence, and each class is a column. Other addresses differ by order, complements and columns in which all cards agree.
+//
+// So a link has a column: 1 for the cards in the set without card 0. Links of one class have the same column, so no classes are kept: the
+// links are taken in rising order, and one opens its column where its ends have the same address so far; an n-th column is one too many.
+// Whether the sets are convex is not asked: as in Eppstein's recognition of partial cubes, all pairs of cards are tested at the end. If
+// all differ in as many places as they are hops apart, these are the addresses; if not, the rack has none, and 11 is said.
+// The tests of 2 to 10 and the hops are those of the crate survey.
 ghost use mathlib.Core.Path.{_≡_};
 ghost use mathlib.Core.Bool.{true};
 ghost use lib.ListN.{length, replicate};
@@ -8,7 +19,7 @@ ghost use Rattle.rack.specs.WiringFile.{file-wiring};
 ghost use Rattle.survey.specs.Formed.{Formed};
 ghost use Rattle.survey.specs.Tables.{Hops-in};
 ghost use Rattle.planner.specs.Stages.{Addressed, File-planned, Rack-planned};
-ghost use Rattle.planner.specs.Planning.{Addresses-found, Asked, Asked-to-write, Plan-found, Plan-says, Write-says};
+ghost use Rattle.planner.specs.Planning.{Addresses-found, Asked, Asked-to-write, Plan-found, Plan-says, Refuses, Write-says};
 use columns::open_columns;
 use pairs::pairs_measure;
 use rack::bytes::number_at;
@@ -37,6 +48,17 @@ pub struct Answer {
     pub value: u32,
 }
 
+// A refusal, with the link or card that it carries.
+pub fn refused(number: u32, at: u32) -> Answer
+    ensures { λ r. ⌜ Refuses number at r ⌝ }
+{
+    Answer {
+        number,
+        at,
+        value: 0,
+    }
+}
+
 // Addresses in words that are zero at entry: the number of columns, or `n` where the rack has none.
 fn address_cards(file: &[u8], n: usize, m: usize, hops: &[u8], words: &mut [u64]) -> usize
     requires { ⌜ Formed (now file) n m × (connected (file-wiring (now file)) ≡ true) × Hops-in (file-wiring (now file)) (now hops) × (now words ≡ replicate lent-words 0) ⌝ }
@@ -53,6 +75,26 @@ fn address_cards(file: &[u8], n: usize, m: usize, hops: &[u8], words: &mut [u64]
     n
 }
 
+// 10 or 11 of a connected rack with its hops, or its addresses in words that are zero at entry.
+fn plan_connected(file: &[u8], n: usize, m: usize, words: &mut [u64], hops: &[u8]) -> Answer
+    requires { ⌜ Formed (now file) n m × (connected (file-wiring (now file)) ≡ true) × Hops-in (file-wiring (now file)) (now hops) × (now words ≡ replicate lent-words 0) ⌝ }
+    ensures { λ r. ⌜ Rack-planned (file-wiring (now (file .entry))) r (now (words .exit)) (now (hops .entry)) ⌝ }
+{
+    let f = parity_refusal(file, n, m, hops);
+    if f.number != 0 {
+        return refused(f.number, f.at);
+    }
+    let k = address_cards(file, n, m, hops, words);
+    if k == n {
+        return refused(11, 0);
+    }
+    Answer {
+        number: 0,
+        at: 0,
+        value: k as u32,
+    }
+}
+
 // 9, 10, 11 of a file that passed 2 to 8, or its plan in buffers that are zero at entry.
 fn plan_formed(file: &[u8], n: usize, m: usize, words: &mut [u64], hops: &mut [u8]) -> Answer
     requires { ⌜ Formed (now file) n m × (now words ≡ replicate lent-words 0) × (now hops ≡ replicate lent-hops 0) ⌝ }
@@ -61,34 +103,10 @@ fn plan_formed(file: &[u8], n: usize, m: usize, words: &mut [u64], hops: &mut [u
     let order = link_order(file, n, m);
     let f = reach_refusal(file, n, m, &order, hops);
     if f.number != 0 {
-        return Answer {
-            number: f.number,
-            at: f.at,
-            value: 0,
-        };
+        return refused(f.number, f.at);
     }
     all_hops(file, n, m, &order, hops);
-    let g = parity_refusal(file, n, m, hops);
-    if g.number != 0 {
-        return Answer {
-            number: g.number,
-            at: g.at,
-            value: 0,
-        };
-    }
-    let k = address_cards(file, n, m, hops, words);
-    if k == n {
-        return Answer {
-            number: 11,
-            at: 0,
-            value: 0,
-        };
-    }
-    Answer {
-        number: 0,
-        at: 0,
-        value: k as u32,
-    }
+    plan_connected(file, n, m, words, hops)
 }
 
 // 2 to 11 of a file, or its plan in buffers that are zero at entry.
@@ -98,21 +116,13 @@ pub fn plan_file(file: &[u8], words: &mut [u64], hops: &mut [u8]) -> Answer
 {
     let x = sizes_fault(file);
     if x != 0 {
-        return Answer {
-            number: x,
-            at: 0,
-            value: 0,
-        };
+        return refused(x, 0);
     }
     let n = number_at(file, 0);
     let m = number_at(file, 2);
     let f = links_refusal(file, n, m, hops);
     if f.number != 0 {
-        return Answer {
-            number: f.number,
-            at: f.at,
-            value: 0,
-        };
+        return refused(f.number, f.at);
     }
     clear_bytes(hops);
     plan_formed(file, n, m, words, hops)
@@ -124,18 +134,10 @@ pub fn plan_rack(file: &[u8], words: &mut [u64], hops: &mut [u8]) -> Answer
     ensures found { λ r. ⌜ (Asked (now (file .entry)) (now (words .entry)) (now (hops .entry)) → Addresses-found (file-wiring (now (file .entry))) r (now (words .exit)) (now (hops .exit))) ⌝ }
 {
     if words.len() != LENT_WORDS {
-        return Answer {
-            number: 1,
-            at: 0,
-            value: 0,
-        };
+        return refused(1, 0);
     }
     if hops.len() != LENT_HOPS {
-        return Answer {
-            number: 1,
-            at: 0,
-            value: 0,
-        };
+        return refused(1, 0);
     }
     clear_words(words);
     clear_bytes(hops);
@@ -153,11 +155,7 @@ pub fn write_plan(file: &[u8], output: &mut [u8]) -> Answer
     ensures found { λ r. ⌜ (Asked-to-write (now (file .entry)) (now (output .entry)) → Plan-found (file-wiring (now (file .entry))) r (now (output .exit))) ⌝ }
 {
     if output.len() != LENT_PLAN {
-        return Answer {
-            number: 1,
-            at: 0,
-            value: 0,
-        };
+        return refused(1, 0);
     }
     let mut words = [0u64; LENT_WORDS];
     let mut hops = [0u8; LENT_HOPS];

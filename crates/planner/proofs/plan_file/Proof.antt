@@ -16,11 +16,15 @@ use Rattle.planner.proofs.plan_file.Tie as tie
 sizes-fault-requires : tie.Need-sizes-fault-requires
 sizes-fault-requires c κs = search needs
 
+refused-requires : tie.Need-refused-requires
+refused-requires c κs = search needs
+
 returns : tie.Need-returns
 returns c =
-    let at-pre = c .before .before .before .before .before in
-    sizes-planned _ _ _ (c .before .sizes-fault .result) (c .before .sizes-fault .ensures) (c .if1 .taken)
-    (zeros-long lent-words _ (at-pre .pre .0)) (zeros-long lent-hops _ (at-pre .pre .1))
+    let at-sizes-fault = c .before .before in
+    let at-pre = at-sizes-fault .before .before .before .before in
+    sizes-planned _ _ _ (at-sizes-fault .sizes-fault .result) _ (at-sizes-fault .sizes-fault .ensures) (c .before .if1 .taken)
+    (c .refused .ensures) (zeros-long lent-words _ (at-pre .pre .0)) (zeros-long lent-hops _ (at-pre .pre .1))
 
 number-at-requires : tie.Need-number-at-requires
 number-at-requires c κs = omega (arith, sizes-clear _ (sym (c .before .sizes-fault .ensures) ∙ c .if1 .left) .head)
@@ -38,18 +42,21 @@ links-refusal-requires c κs =
       at-pre .pre .1,
     )
 
+refused-requires-2 : tie.Need-refused-requires-2
+refused-requires-2 c κs = search needs
+
 same-length : tie.Need-same-length
 same-length c = search needs
 
 returns-2 : tie.Need-returns-2
 returns-2 c =
-    let at-links-refusal = c .before .before .before .before in
+    let at-links-refusal = c .before .before .before .before .before in
     let at-if1 = at-links-refusal .before .before .before .before in
     let at-sizes-fault = at-if1 .before in
     let at-pre = at-sizes-fault .before .before .before .before in
     links-planned _ _ _ (sym (at-sizes-fault .sizes-fault .ensures) ∙ at-if1 .if1 .left)
-    (at-links-refusal .links-refusal .result) (at-links-refusal .links-refusal .ensures .0) (c .if2 .taken)
-    (zeros-long lent-words _ (at-pre .pre .0)) (at-links-refusal .links-refusal .ensures .1)
+    (at-links-refusal .links-refusal .result) (at-links-refusal .links-refusal .ensures .0) _
+    (c .before .if2 .taken) (c .refused2 .ensures) (zeros-long lent-words _ (at-pre .pre .0)) (at-links-refusal .links-refusal .ensures .1)
 
 clear-bytes-requires : tie.Need-clear-bytes-requires
 clear-bytes-requires c κs = search needs
@@ -92,10 +99,12 @@ plan-file-spec =
     tie.close
     (tie.spec
     sizes-fault-requires
+    refused-requires
     returns
     number-at-requires
     number-at-requires-2
     links-refusal-requires
+    refused-requires-2
     same-length
     returns-2
     clear-bytes-requires

@@ -12,19 +12,25 @@ use Rattle.rack.specs.Limits.{lent-hops, lent-words}
 use Rattle.planner.proofs.plan_rack.Statement.{statement}
 use Rattle.planner.proofs.plan_rack.Tie as tie
 
+refused-requires : tie.Need-refused-requires
+refused-requires c κs = search needs
+
 returns : tie.Need-returns
 returns c =
-    let says = plan-says-one (c .before .before .before .before .args .file .now) _
-    (c .before .before .before .before .args .words .now) (c .before .before .before .before .args .hops .now)
-    (rw (ne-eqb (length (c .before .before .before .before .args .words .now)) lent-words (c .if1 .taken)) refl) refl refl refl in
+    let a = c .before .before .before .before .before .args in
+    let says = plan-says-one (a .file .now) _ (a .words .now) (a .hops .now)
+    (rw (ne-eqb (length (a .words .now)) lent-words (c .before .if1 .taken)) refl) (c .refused .ensures) in
     (says, λ a. addresses-found _ _ _ _ _ _ a says)
+
+refused-requires-2 : tie.Need-refused-requires-2
+refused-requires-2 c κs = search needs
 
 returns-2 : tie.Need-returns-2
 returns-2 c =
-    let at-args = c .before .before .before .before .before in
-    let says = plan-says-one (at-args .args .file .now) _ (at-args .args .words .now) (at-args .args .hops .now)
-    (rw (ne-eqb (length (at-args .args .hops .now)) lent-hops (c .if2 .taken))
-    (and-false (eqb (length (at-args .args .words .now)) lent-words))) refl refl refl in
+    let a = c .before .before .before .before .before .before .args in
+    let says = plan-says-one (a .file .now) _ (a .words .now) (a .hops .now)
+    (rw (ne-eqb (length (a .hops .now)) lent-hops (c .before .if2 .taken)) (and-false (eqb (length (a .words .now)) lent-words)))
+    (c .refused2 .ensures) in
     (says, λ a. addresses-found _ _ _ _ _ _ a says)
 
 clear-words-requires : tie.Need-clear-words-requires
@@ -89,7 +95,9 @@ pub plan-rack-spec : {M : Type 1} → statement M
 plan-rack-spec =
     tie.close
     (tie.spec
+    refused-requires
     returns
+    refused-requires-2
     returns-2
     clear-words-requires
     clear-bytes-requires

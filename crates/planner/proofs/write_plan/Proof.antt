@@ -9,10 +9,13 @@ use borrow.Author.Needs.{needs}
 use Rattle.planner.proofs.write_plan.Statement.{statement}
 use Rattle.planner.proofs.write_plan.Tie as tie
 
+refused-requires : tie.Need-refused-requires
+refused-requires c κs = search needs
+
 returns : tie.Need-returns
 returns c =
-    let at-args = c .before .before .before in
-    let says = write-says-one (at-args .args .file .now) _ (at-args .args .output .now) (c .if1 .taken) refl refl refl in
+    let at-args = c .before .before .before .before in
+    let says = write-says-one (at-args .args .file .now) _ (at-args .args .output .now) (c .before .if1 .taken) (c .refused .ensures) in
     (says, λ a. plan-found _ _ _ _ a says)
 
 slice-aggregate-plan-file : tie.Need-slice-aggregate-plan-file
@@ -107,6 +110,7 @@ pub write-plan-spec : {M : Type 1} → statement M
 write-plan-spec =
     tie.close
     (tie.spec
+    refused-requires
     returns
     slice-aggregate-plan-file
     slice-aggregate-plan-file-2
