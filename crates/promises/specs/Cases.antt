@@ -1,7 +1,7 @@
 -- The table of cases: document 01's P1 to P10, and a row for each rule that these do not show. Assumes nothing: these are definitions.
 use mathlib.Core.List.{List, [], _∷_, _++_}
 use Prim.Native.Nat.{ℕ}
-use lib.ListN.{take, set}
+use lib.ListN.{take, set, replicate}
 use Rattle.rack.specs.Wiring.{Link, link, wiring}
 use Rattle.planner.specs.PlanBytes.{plan-bytes}
 use Rattle.promises.specs.Claims.{hex, Case, rack, file-of, plan-of}
@@ -83,9 +83,13 @@ rack-cases =
 unfoldable pub plan-cases : List Case
 plan-cases =
     plan-of "P5's plan without its last byte" (take 25 ring-plan) (read-as 12 ∷ [])
-    ∷ plan-of "five bytes" (hex "01 00 00 00 00") (read-as 12 ∷ [])
-    ∷ plan-of "no card" (hex "00 00 00 00 00 00") (read-as 12 ∷ [])
-    ∷ plan-of "257 cards without a column" (hex "01 01 00 00 00 00") (read-as 12 ∷ [])
+    ∷ plan-of "P5's plan and a byte behind it" (ring-plan ++ hex "00") (read-as 12 ∷ [])
+    ∷ plan-of "a plan of five bytes" (hex "01 00 00 00 00") (read-as 12 ∷ [])
+    ∷ plan-of "a plan of no card" (hex "00 00 00 00 00 00") (read-as 12 ∷ [])
+    ∷ plan-of "a plan of 256 cards" (hex "00 01 00 00 00 00") (read-as 13 ∷ [])
+    ∷ plan-of "a plan of 257 cards" (hex "01 01 00 00 00 00") (read-as 12 ∷ [])
+    ∷ plan-of "a plan of 255 columns" (hex "01 00 00 00 ff 00" ++ replicate 32 0) (read-as 13 ∷ [])
+    ∷ plan-of "a plan of 256 columns" (hex "01 00 00 00 00 01" ++ replicate 32 0) (read-as 12 ∷ [])
     ∷ plan-of "P5's plan with a spare bit: 13, and it does not count" (set ring-plan 23 5) (read-as 13 ∷ walks 0 2 2 (0 ∷ 1 ∷ 2 ∷ []) ∷ [])
     ∷ plan-of "nine columns: the last is bit 0 of the second byte" (hex "02 00 01 00 09 00 00 00 01 00 00 00 00 01")
     (read-as 13 ∷ walks 0 1 1 (0 ∷ 1 ∷ []) ∷ [])
