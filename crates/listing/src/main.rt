@@ -1,4 +1,5 @@
-// The listing program: prints the listing of the wiring file on standard input. Its test is the ring of four, an accepted rack.
+// The listing program: prints the listing of the wiring file on standard input. Its test is a file of 8,196 bytes, the longest that
+// there is, with 2,048 links of which only the last is in fault; tests/listing shows others.
 use libc::STDIN_FILENO;
 use libc::STDOUT_FILENO;
 

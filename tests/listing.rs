@@ -1,0 +1,127 @@
+//! Compares what the listing program prints with the second implementation: `listing PROGRAM WIRING...`.
+//! The files of 2,048 links, which are the longest, are made here. No rack of so many links is accepted: an accepted one of
+//! 256 cards has at most 1,024.
+
+#[allow(dead_code)]
+mod racks;
+#[allow(dead_code)]
+mod second;
+
+use racks::Rack;
+use second::{PLAN_BYTES, RECORD_BYTES};
+use std::io::Write;
+use std::process::{Command, Stdio};
+use std::time::Duration;
+
+/// How much of its input the program reads.
+const MOST_INPUT: usize = 8_197;
+/// The input comes in pieces of so many bytes.
+const PIECE: usize = 3_000;
+
+fn main() {
+    let mut words = std::env::args().skip(1);
+    let program = words.next().expect("listing PROGRAM WIRING...");
+    let mut tried = 0;
+    for path in words {
+        let file = std::fs::read(&path).expect("a wiring file");
+        compare(&program, &path, &file);
+        tried += 1;
+    }
+    for (text, file) in longest_files() {
+        assert_eq!(listing(&file), text, "the second implementation");
+        compare(&program, &format!("made to be {text:?}"), &file);
+        tried += 1;
+    }
+    println!("listing: {tried} files agree");
+}
+
+fn compare(program: &str, name: &str, file: &[u8]) {
+    let printed = printed(program, file);
+    if printed != listing(file) {
+        println!("listing: {name} differs: the program printed\n{printed}");
+        std::process::exit(1);
+    }
+}
+
+/// What the program prints with these bytes on its standard input.
+fn printed(program: &str, file: &[u8]) -> String {
+    let mut child = Command::new(program)
+        .stdin(Stdio::piped())
+        .stdout(Stdio::piped())
+        .spawn()
+        .expect("the listing program");
+    let mut input = child.stdin.take().expect("its standard input");
+    for piece in file.chunks(PIECE) {
+        // a program that has read enough may end before its input does
+        if input.write_all(piece).is_err() {
+            break;
+        }
+        std::thread::sleep(Duration::from_millis(2));
+    }
+    drop(input);
+    let output = child.wait_with_output().expect("its standard output");
+    assert!(output.status.success(), "{}", output.status);
+    String::from_utf8(output.stdout).expect("text")
+}
+
+/// The listing of a file, of which only the beginning is read.
+fn listing(file: &[u8]) -> String {
+    let read = &file[..file.len().min(MOST_INPUT)];
+    let (mut plan, mut record) = ([0; PLAN_BYTES], [0; RECORD_BYTES]);
+    match second::write_plan(read, &mut plan, &mut record) {
+        0 => accepted(&plan),
+        answer => refused(answer % 256, answer / 256),
+    }
+}
+
+fn accepted(plan: &[u8]) -> String {
+    let number = |at| usize::from(u16::from_le_bytes([plan[at], plan[at + 1]]));
+    let (cards, links, columns) = (number(0), number(2), number(4));
+    let mut text = format!("cards {cards}\nlinks {links}\ncolumns {columns}\n");
+    for card in 0..cards {
+        let address = &plan[6 + 4 * links + card * columns.div_ceil(8)..];
+        let bits = (0..columns).map(|j| char::from(b'0' + (address[j / 8] >> (j % 8) & 1)));
+        let bits: String = if columns == 0 { "-".into() } else { bits.collect() };
+        text += &format!("card {card} {bits}\n");
+    }
+    text
+}
+
+fn refused(number: u32, at: u32) -> String {
+    match number {
+        6 | 7 | 8 | 10 => format!("refused {number} link {at}\n"),
+        9 => format!("refused {number} card {at}\n"),
+        _ => format!("refused {number}\n"),
+    }
+}
+
+/// Files of 8,196 bytes, good links throughout or the last one in fault, and longer ones.
+fn longest_files() -> Vec<(&'static str, Vec<u8>)> {
+    let with_last = |link| {
+        let mut rack = two_sides_of_sixteen_each();
+        rack.links[2_047] = link;
+        rack.bytes()
+    };
+    let good = two_sides_of_sixteen_each().bytes();
+    assert_eq!(good.len() + 1, MOST_INPUT);
+    let longer = |more| [good.clone(), vec![0; more]].concat();
+    vec![
+        ("refused 11\n", good.clone()),
+        ("refused 10 link 2047\n", with_last((1, 2))),
+        ("refused 8 link 2047\n", with_last((128, 0))),
+        ("refused 7 link 2047\n", with_last((255, 255))),
+        ("refused 6 link 2047\n", with_last((0, 256))),
+        ("refused 5\n", good[..8_195].to_vec()),
+        ("refused 5\n", longer(1)),
+        ("refused 5\n", longer(10_000)),
+    ]
+}
+
+/// 128 cards on each side, each linked to sixteen of the other side: 2,048 links, no odd loop.
+fn two_sides_of_sixteen_each() -> Rack {
+    let links = (0..16).flat_map(|turn| (0..128).map(move |card| (card, 128 + (card + turn) % 128)));
+    Rack {
+        cards: 256,
+        links: links.collect(),
+    }
+}
