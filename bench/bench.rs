@@ -3,9 +3,9 @@
 #[path = "../tests/calls.rs"]
 mod calls;
 #[allow(dead_code)]
-#[path = "../tests/racks.rs"]
+#[path = "../tests/racks/mod.rs"]
 mod racks;
-#[path = "../tests/second.rs"]
+#[path = "../tests/second/mod.rs"]
 mod second;
 
 use racks::{Rack, Rng};

@@ -10,7 +10,9 @@ mod racks;
 mod second;
 
 use both::{Both, Call, Lengths};
-use racks::{Rack, Rng, SHAPES};
+use faults::{plans, wirings};
+use racks::kinds::SHAPES;
+use racks::{Rack, Rng};
 
 const SEED: u64 = 20_260_115;
 const ROUNDS: u64 = 4_000;
@@ -95,12 +97,12 @@ fn run_round(both: &mut Both, rng: &mut Rng) {
     if let Some(plan) = &plan {
         follow_plan(both, rng, plan, 24);
         for _ in 0..3 {
-            let damaged = faults::damaged_plan(rng, plan);
+            let damaged = plans::damaged_plan(rng, plan);
             follow_plan(both, rng, &damaged, 5);
         }
     }
     for _ in 0..3 {
-        let faulty = faults::faulty_wiring(rng, &rack);
+        let faulty = wirings::faulty_wiring(rng, &rack);
         let answer = both.write_plan(&faulty.wiring);
         let right = faulty.number.is_none_or(|number| answer.number() == number);
         both.expect(
@@ -111,7 +113,7 @@ fn run_round(both: &mut Both, rng: &mut Rng) {
         );
         wrong_lengths(both, rng, &[Call::WritePlan], &faulty.wiring);
     }
-    let made_up = faults::made_up_plan(rng);
+    let made_up = plans::made_up_plan(rng);
     follow_plan(both, rng, &made_up, 12);
     wrong_lengths(both, rng, &[Call::WritePlan], &rack.bytes());
     let file = plan.filter(|_| rng.below(2) == 0).unwrap_or(made_up);
@@ -155,7 +157,7 @@ fn plan_rack(both: &mut Both, rack: &Rack, number: Option<u32>) -> Option<Vec<u8
 /// Reads a plan, sound or not, and walks it between some cards.
 fn follow_plan(both: &mut Both, rng: &mut Rng, plan: &[u8], walks: usize) {
     let sound = both.read_plan(plan).code == 0;
-    let rack = sound.then(|| faults::plan_rack(plan));
+    let rack = sound.then(|| plans::plan_rack(plan));
     let hops = rack.as_ref().map(properties::hops);
     for _ in 0..walks {
         let (from, to) = (some_card(rng, plan), some_card(rng, plan));
