@@ -47,12 +47,8 @@ impl Draft {
 
 /// The rack inside a plan file of a sound layout.
 pub fn plan_rack(plan: &[u8]) -> Rack {
-    let (cards, links) = (number(plan, 0), number(plan, 1));
-    let ends = |link| (number(plan, 3 + link), number(plan, 3 + links + link));
-    Rack {
-        cards,
-        links: (0..links).map(ends).collect(),
-    }
+    let links = number(plan, 1);
+    Rack::of(&[&plan[..4], &plan[6..6 + 4 * links]].concat())
 }
 
 /// A sound plan with some change. Now and then it is sound again.

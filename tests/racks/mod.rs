@@ -15,6 +15,16 @@ pub struct Rack {
 }
 
 impl Rack {
+    /// The rack of a sound wiring file.
+    pub fn of(wiring: &[u8]) -> Rack {
+        let number =
+            |at: usize| usize::from(u16::from_le_bytes([wiring[2 * at], wiring[2 * at + 1]]));
+        let [cards, links] = [number(0), number(1)];
+        let ends = |link| (number(2 + link), number(2 + links + link));
+        let links = (0..links).map(ends).collect();
+        Rack { cards, links }
+    }
+
     /// The wiring file.
     pub fn bytes(&self) -> Vec<u8> {
         let sizes = [self.cards, self.links.len()].into_iter();

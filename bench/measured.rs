@@ -1,0 +1,235 @@
+//! What bench.rs times and tests/cost.rs counts: racks of 256 cards, plans that no planner wrote, and the steps and walks on
+//! them that take longest.
+
+use crate::calls;
+use crate::racks::{self, Rack, Rng};
+use crate::second::{PLAN_BYTES, RECORD_BYTES};
+
+const SEED: u64 = 7;
+/// How many plans are stepped on in turn: more than a processor's branch predictor learns by heart.
+const IN_TURN: usize = 60;
+
+/// A rack of 256 cards, and the number that planning answers.
+pub struct Measured {
+    pub name: &'static str,
+    pub rack: Rack,
+    pub number: u32,
+}
+
+/// A frame on a plan, the two cards that it goes between, and whether it arrives and with how many hops.
+pub struct Frame {
+    pub name: &'static str,
+    pub plan: Vec<u8>,
+    pub ends: (u32, u32),
+    pub answer: [u32; 2],
+}
+
+/// The slowest wirings that a search found.
+const SLOWEST: [(&str, u32, &[u8]); 3] = [
+    (
+        "slowest found, accepted",
+        0,
+        include_bytes!("wirings/slowest-accepted.wiring"),
+    ),
+    (
+        "slowest found, refused with 10",
+        10,
+        include_bytes!("wirings/slowest-refused-10.wiring"),
+    ),
+    (
+        "slowest found, refused with 11",
+        11,
+        include_bytes!("wirings/slowest-refused-11.wiring"),
+    ),
+];
+
+/// A tail whose links stand behind all others.
+fn tail_last(rng: &mut Rng) -> Rack {
+    racks::cube(7).with_tail(128).renumbered(rng)
+}
+
+/// Cards are numbered and links ordered at random, except where a name says more.
+pub fn racks_of_256() -> Vec<Measured> {
+    let rng = &mut Rng::new(SEED);
+    let tree = racks::tree(rng, 256);
+    let dense = racks::two_sides(rng, 128, 128, 2_048);
+    let blob = racks::two_sides(rng, 48, 48, 1_800);
+    let shuffled = [
+        ("chain", 0, racks::chain(256)),
+        ("ring", 0, racks::ring(256)),
+        ("8-cube", 0, racks::cube(8)),
+        ("grid of 16 x 16", 0, racks::grid(16, 16)),
+        ("random tree", 0, tree),
+        ("star", 0, racks::star(256)),
+        ("tail of 128 on a 7-cube", 0, racks::cube(7).with_tail(128)),
+        ("dense, two sides", 11, dense),
+        ("tail of 160 on a dense blob", 11, blob.with_tail(160)),
+    ]
+    .map(|(name, number, rack)| (name, number, rack.shuffled(rng)));
+    let slowest = SLOWEST.map(|(name, number, wiring)| (name, number, Rack::of(wiring)));
+    let rest = [("tail of 128 on a 7-cube, links last", 0, tail_last(rng))];
+    let all = shuffled.into_iter().chain(rest).chain(slowest);
+    all.map(|(name, number, rack)| Measured { name, rack, number })
+        .collect()
+}
+
+impl Measured {
+    /// The plan that the library writes, where it does not refuse.
+    pub fn plan(&self) -> Option<Vec<u8>> {
+        let (mut plan, mut record) = (vec![0; PLAN_BYTES], [0; RECORD_BYTES]);
+        let code = calls::write_plan(&self.rack.bytes(), &mut plan, &mut record);
+        assert_eq!(code % 256, self.number, "planning: {}", self.name);
+        plan.truncate(usize::from(u16::from_le_bytes([record[0], record[1]])));
+        (code == 0).then_some(plan)
+    }
+
+    /// The wiring in a plan without columns, which 13 refuses.
+    pub fn plan_without_columns(&self) -> Vec<u8> {
+        let mut plan = self.rack.bytes();
+        plan.splice(4..4, [0, 0]);
+        plan
+    }
+
+    /// The steps to a neighbour for which no other step has both a later link and more earlier links at its card: a
+    /// step looks at all links up to its own, and counts the places of the far card of each that is at its card.
+    pub fn worst_steps(&self, plan: &[u8]) -> Vec<Frame> {
+        let mut seen = vec![0; self.rack.cards];
+        let mut steps = Vec::new();
+        for (link, &(p, q)) in self.rack.links.iter().enumerate() {
+            steps.extend([(link, seen[p], p, q), (link, seen[q], q, p)]);
+            seen[p] += 1;
+            seen[q] += 1;
+        }
+        steps.sort_unstable_by(|x, y| y.cmp(x));
+        let mut most = None;
+        steps.retain(|&(_, counted, ..)| {
+            let more = Some(counted) > most;
+            most = most.max(Some(counted));
+            more
+        });
+        let steps = steps.into_iter();
+        steps
+            .map(|(_, _, from, to)| self.arriving(plan, from, to, 1))
+            .collect()
+    }
+
+    /// The walks between the two cards that are farthest from each other.
+    pub fn longest_walks(&self, plan: &[u8]) -> [Frame; 2] {
+        let addresses = &plan[6 + 4 * self.rack.links.len()..];
+        let width = addresses.len() / self.rack.cards;
+        let row = |card: usize| &addresses[card * width..][..width];
+        let hops = |(p, q): &(usize, usize)| -> u32 {
+            let bytes = row(*p).iter().zip(row(*q));
+            bytes.map(|(x, y)| (x ^ y).count_ones()).sum()
+        };
+        let pairs = (0..self.rack.cards).flat_map(|q| (0..q).map(move |p| (p, q)));
+        let (p, q) = pairs.max_by_key(hops).expect("a rack of several cards");
+        [(p, q), (q, p)].map(|(from, to)| self.arriving(plan, from, to, hops(&(p, q))))
+    }
+
+    fn arriving(&self, plan: &[u8], from: usize, to: usize, hops: u32) -> Frame {
+        Frame {
+            name: self.name,
+            plan: plan.to_vec(),
+            ends: (from as u32, to as u32),
+            answer: [1, hops],
+        }
+    }
+}
+
+/// A plan of 256 cards and 255 columns. Card c has so many ones as given, in its first columns.
+fn made_up_plan(links: Vec<(usize, usize)>, ones: impl Fn(usize) -> usize) -> Vec<u8> {
+    let mut plan = Rack { cards: 256, links }.bytes();
+    plan.splice(4..4, [255, 0]);
+    let byte = |ones: usize, at: usize| {
+        let bits = (0..8).map(|bit| u8::from(8 * at + bit < ones) << bit);
+        bits.sum::<u8>()
+    };
+    plan.extend(
+        (0..256)
+            .flat_map(|card| (0..32).map(move |at| (card, at)))
+            .map(|(card, at)| byte(ones(card), at)),
+    );
+    plan
+}
+
+/// From card 0 to card 255, where no other card is nearer to card 255 than card 0.
+fn stuck_frame(name: &'static str, links: Vec<(usize, usize)>) -> Frame {
+    let ones = |card| if card == 255 { 255 } else { 0 };
+    Frame {
+        name,
+        plan: made_up_plan(links, ones),
+        ends: (0, 255),
+        answer: [0, 0],
+    }
+}
+
+/// All links at card 0.
+pub fn stuck_at_hub() -> Frame {
+    let links = (0..2_048).map(|link| (0, link % 255));
+    stuck_frame("2,048 links at one card, refused with 13", links.collect())
+}
+
+/// Three in four links at card 0, either end first, and every other link leads to no card.
+fn stuck_in_tangle(rng: &mut Rng) -> Frame {
+    let links = (0..2_048).map(|_| {
+        let near = if rng.below(4) < 3 { 0 } else { rng.below(255) };
+        let far = if rng.below(2) == 0 {
+            256
+        } else {
+            rng.below(255)
+        };
+        rng.pick(&[(near, far), (far, near)])
+    });
+    stuck_frame("tangles of 2,048 links, refused with 13", links.collect())
+}
+
+/// From end to end of a chain whose links stand behind others that lead to no card.
+pub fn chain_behind_others() -> Frame {
+    let others = (0..1_793).map(|link| (link % 256, 256));
+    let links = others.chain(racks::chain(256).links);
+    Frame {
+        name: "chain behind 1,793 other links, refused with 13",
+        plan: made_up_plan(links.collect(), |card| card),
+        ends: (0, 255),
+        answer: [1, 255],
+    }
+}
+
+/// Stuck frames on different plans that 13 refuses.
+pub fn tangles_in_turn() -> Vec<Frame> {
+    let rng = &mut Rng::new(SEED);
+    (0..IN_TURN).map(|_| stuck_in_tangle(rng)).collect()
+}
+
+/// Frames on the plans of racks of one shape.
+fn in_turn(
+    name: &'static str,
+    make: fn(&mut Rng) -> Rack,
+    frames: fn(&Measured, &[u8]) -> Vec<Frame>,
+) -> Vec<Frame> {
+    let rng = &mut Rng::new(SEED);
+    let frames = (0..IN_TURN).flat_map(|_| {
+        let rack = make(rng);
+        let measured = Measured {
+            name,
+            rack,
+            number: 0,
+        };
+        let plan = measured.plan().expect("an accepted rack");
+        frames(&measured, &plan)
+    });
+    frames.collect()
+}
+
+/// The worst steps on different plans that are read.
+pub fn stars_in_turn() -> Vec<Frame> {
+    let star = |rng: &mut Rng| racks::star(256).shuffled(rng);
+    in_turn("stars", star, Measured::worst_steps)
+}
+
+/// The longest walks on different plans that are read.
+pub fn tails_in_turn() -> Vec<Frame> {
+    let frames = |measured: &Measured, plan: &[u8]| measured.longest_walks(plan).into();
+    in_turn("tails of 128 on 7-cubes, links last", tail_last, frames)
+}
