@@ -1,13 +1,13 @@
 -- The planner's test of all pairs, over the columns that it opened, decides whether the rack has an embedding. Assumes nothing.
 use mathlib.Core.Path.{_≡_, refl, sym, ap, subst, _∙_}
-use mathlib.Core.Bool.{Bool}
+use mathlib.Core.Bool.{Bool, true}
 use mathlib.Core.List.{List}
 use Prim.Native.Nat.{ℕ, _+_, _≤_, _<_}
 use native.Mathlib.Omega.{arith}
 use lib.ListN.{length}
-use Rattle.rack.specs.Limits.{most-cards}
 use Rattle.rack.specs.Wiring.{Wiring, link-count}
-use Rattle.rack.specs.Hops.{hops}
+use Rattle.rack.specs.Hops.{hops, connected}
+use Rattle.rack.specs.WiringFile.{file-wiring}
 use Rattle.rack.specs.Columns.{columns, column-count, address, hamming, Embedding}
 use Rattle.rack.proofs.Logic.{by-lt, by-eq}
 use Rattle.rack.proofs.Hops.{hops-self, hops-sym}
@@ -15,7 +15,9 @@ use Rattle.rack.proofs.Hamming.{hamming-same, hamming-sym}
 use Rattle.rack.proofs.Crossing.{Rack}
 use Rattle.rack.proofs.Uniqueness.{addresses-embed}
 use Rattle.rack.proofs.FewColumns.{few-columns}
+use Rattle.survey.specs.Formed.{Formed}
 use Rattle.survey.specs.Tables.{cell, Hops-in}
+use Rattle.survey.proofs.Forms.{formed-cards, formed-count, formed-rack}
 use Rattle.planner.specs.Stages.{Addressed}
 use Rattle.planner.specs.OpenColumns.{bit-in, columns-opened, Words-of, Columns-opened, words-hamming, Pairs-measure}
 use Rattle.planner.proofs.AddressWords.{words-hamming-columns}
@@ -47,7 +49,20 @@ module _ (w : Wiring) (cs : List (List Bool)) (ws h : List ℕ) (s : Words-of cs
       record { measured = λ a b ha hb. words-hamming-columns cs (w .cards) ws s few a b ha (omega arith) ∙ m a b ha (omega arith) ∙ sym (t .is a b ha (omega arith)) }
 
 -- THE DECISION, over all links' columns in the words and a table of hops
-module _ (w : Wiring) (rack : Rack w) (ws h : List ℕ) (n m k : ℕ) (cards : n ≡ w .cards) (links : m ≡ link-count w) (few : n ≤ most-cards) (t : Hops-in w h) (o : Columns-opened w n m ws k) where
+module _ (bs ws h : List ℕ) (n m k : ℕ) (f : Formed bs n m) (whole : connected (file-wiring bs) ≡ true) (t : Hops-in (file-wiring bs) h)
+    (o : Columns-opened (file-wiring bs) n m ws k) where
+  abbrev w : Wiring
+  w = file-wiring bs
+
+  rack : Rack w
+  rack = formed-rack bs n m f whole
+
+  cards : n ≡ w .cards
+  cards = sym (formed-cards bs n m f)
+
+  links : m ≡ link-count w
+  links = sym (formed-count bs n m f)
+
   all-count : k < n → k ≡ length (columns-opened w (link-count w))
   all-count g = rw links at (o .count g)
 
@@ -67,7 +82,7 @@ module _ (w : Wiring) (rack : Rack w) (ws h : List ℕ) (n m k : ℕ) (cards : n
     where
       embedding : Embedding w (length (columns-opened w (link-count w))) (bit-in (columns-opened w (link-count w)))
       embedding =
-          pairs-embed w (columns-opened w (link-count w)) ws h (all-columns-words g) (omega (arith, all-count g)) t (subst (λ (v : ℕ). Pairs-measure ws h v) cards p)
+          pairs-embed w (columns-opened w (link-count w)) ws h (all-columns-words g) (omega (arith, f .sizes .few, all-count g)) t (subst (λ (v : ℕ). Pairs-measure ws h v) cards p)
 
       same : columns-opened w (link-count w) ≡ columns w
       same = columns-opened-all w rack (length (columns-opened w (link-count w))) (bit-in (columns-opened w (link-count w))) embedding
@@ -84,7 +99,7 @@ module _ (w : Wiring) (rack : Rack w) (ws h : List ℕ) (n m k : ℕ) (cards : n
       impossible m =
           let same = columns-opened-all w rack (length (columns w)) (bit-in (columns w)) m in
           p (subst (λ (v : ℕ). Pairs-measure ws h v) (sym cards)
-          (embed-pairs w (columns w) ws h (rw same at (all-columns-words g)) (omega (arith, all-count g, ap length same)) t m))
+          (embed-pairs w (columns w) ws h (rw same at (all-columns-words g)) (omega (arith, f .sizes .few, all-count g, ap length same)) t m))
 
   pub full-addressed : k ≡ n → Addressed w n ws n
   unfolding column-count
@@ -92,4 +107,4 @@ module _ (w : Wiring) (rack : Rack w) (ws h : List ℕ) (n m k : ℕ) (cards : n
     where
       impossible : Embedding w (column-count w) (address w) → ⊥
       impossible m =
-          omega (arith, o .full g, ap (λ (i : ℕ). length (columns-opened w i)) links, ap length (columns-opened-all w rack (column-count w) (address w) m), few-columns w rack m)
+          omega (arith, cards, o .full g, ap (λ (i : ℕ). length (columns-opened w i)) links, ap length (columns-opened-all w rack (column-count w) (address w) m), few-columns w rack m)

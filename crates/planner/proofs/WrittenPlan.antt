@@ -22,6 +22,9 @@ address-room c n size h = omega (arith, suc-mul c size, mul-le-mul-right size h)
 pub addresses-room : (n size : ℕ) → n ≤ most-cards → size ≤ 32 → n * size ≤ 8192
 addresses-room n size hn hs = mul-le-mul {n₂ = 256} {m₂ = 32} hn hs
 
+pub address-inside : (c n size : ℕ) → c < n → n ≤ most-cards → size ≤ 32 → c * size + size ≤ 8192
+address-inside c n size h hn hs = omega (arith, address-room c n size h, addresses-room n size hn hs)
+
 -- THE THREE SIZES, and then the whole plan
 pub sizes-appended : (n m k : ℕ) (o₀ o₁ o₂ o₃ : List ℕ) → Appends 0 o₀ o₁ (two-bytes n) → Appends 2 o₁ o₂ (two-bytes m) → Appends 4 o₂ o₃ (two-bytes k)
     → Appends 0 o₀ o₃ (two-bytes n ++ two-bytes m ++ two-bytes k)

@@ -1,9 +1,8 @@
--- The test of all pairs over the opened columns decides whether there is an embedding. Assumes nothing.
-use mathlib.Core.Path.{sym, _∙_, ap}
+-- The test of all pairs over the columns decides whether there is an embedding. Assumes nothing.
+use mathlib.Core.Path.{_∙_, ap}
 use Prim.Native.Nat.{ℕ}
 use native.Mathlib.Omega.{arith}
 use lib.ListN.{length, length-replicate}
-use Rattle.survey.proofs.Forms.{formed-cards, formed-count, formed-rack}
 use Rattle.planner.proofs.MeasuredPairs.{measured-addressed, unmeasured-addressed, full-addressed}
 use borrow.Author.Needs.{needs}
 use Rattle.rack.specs.Limits.{lent-words}
@@ -22,10 +21,8 @@ same-length c = search needs
 returns : tie.Need-returns
 returns c =
     let at-open-columns = c .before .before .before in
-    let at-pre = at-open-columns .before .before .before .before .before .before .before in
-    full-addressed _ (formed-rack _ _ _ (at-pre .pre .0) (at-pre .pre .1)) _ _ _ _ _
-    (sym (formed-cards _ _ _ (at-pre .pre .0))) (sym (formed-count _ _ _ (at-pre .pre .0))) (at-pre .pre .0 .sizes .few)
-    (at-pre .pre .2) (at-open-columns .open-columns .ensures) (c .if1 .taken)
+    let p = at-open-columns .before .before .before .before .before .before .before .pre in
+    full-addressed _ _ _ _ _ _ (p .0) (p .1) (p .2) (at-open-columns .open-columns .ensures) (c .if1 .taken)
 
 pairs-measure-requires : tie.Need-pairs-measure-requires
 pairs-measure-requires c κs =
@@ -46,10 +43,8 @@ returns-2 : tie.Need-returns-2
 returns-2 c =
     let at-if1 = c .before .before .before .before in
     let at-open-columns = at-if1 .before .before .before in
-    let at-pre = at-open-columns .before .before .before .before .before .before .before in
-    measured-addressed _ (formed-rack _ _ _ (at-pre .pre .0) (at-pre .pre .1)) _ _ _ _ _
-    (sym (formed-cards _ _ _ (at-pre .pre .0))) (sym (formed-count _ _ _ (at-pre .pre .0))) (at-pre .pre .0 .sizes .few)
-    (at-pre .pre .2) (at-open-columns .open-columns .ensures)
+    let p = at-open-columns .before .before .before .before .before .before .before .pre in
+    measured-addressed _ _ _ _ _ _ (p .0) (p .1) (p .2) (at-open-columns .open-columns .ensures)
     (omega (arith, at-open-columns .open-columns .ensures .most, at-if1 .if1 .left)) (c .before .pairs-measure .ensures .0 (c .if2 .taken))
 
 same-length-3 : tie.Need-same-length-3
@@ -59,10 +54,8 @@ returns-3 : tie.Need-returns-3
 returns-3 c =
     let at-if1 = c .before .before .before .before in
     let at-open-columns = at-if1 .before .before .before in
-    let at-pre = at-open-columns .before .before .before .before .before .before .before in
-    unmeasured-addressed _ (formed-rack _ _ _ (at-pre .pre .0) (at-pre .pre .1)) _ _ _ _ _
-    (sym (formed-cards _ _ _ (at-pre .pre .0))) (sym (formed-count _ _ _ (at-pre .pre .0))) (at-pre .pre .0 .sizes .few)
-    (at-pre .pre .2) (at-open-columns .open-columns .ensures)
+    let p = at-open-columns .before .before .before .before .before .before .before .pre in
+    unmeasured-addressed _ _ _ _ _ _ (p .0) (p .1) (p .2) (at-open-columns .open-columns .ensures)
     (omega (arith, at-open-columns .open-columns .ensures .most, at-if1 .if1 .left)) (c .before .pairs-measure .ensures .1 (c .if2 .left))
 
 pub address-cards-spec : {M : Type 1} → statement M

@@ -1,6 +1,6 @@
 -- The addresses of the first c cards are appended. Assumes nothing.
 use Rattle.rack.proofs.Appending.{appended-block, Appended, appended-none}
-use Rattle.planner.proofs.WrittenPlan.{address-room, addresses-room}
+use Rattle.planner.proofs.WrittenPlan.{address-room, address-inside}
 use mathlib.Core.Path.{_≡_, subst}
 use Prim.Native.Nat.{ℕ, _-_, _≤_}
 use native.Mathlib.Omega.{arith}
@@ -22,23 +22,13 @@ loop-holds c = (omega arith, appended-none _ _)
 
 mul-put-address : tie.Need-mul-put-address Inv-loop μ-loop
 mul-put-address c =
-    let at-args = c .before .before .before .before .before in
-    omega (
-      arith,
-      address-room (c .before .before .loop .c) (at-args .args .n) (at-args .args .size)
-          (omega arith),
-      addresses-room (at-args .args .n) (at-args .args .size) (omega arith) (omega arith),
-    )
+    let a = c .before .before .before .before .before .args in
+    omega (arith, address-inside (c .before .before .loop .c) (a .n) (a .size) (omega arith) (omega arith) (omega arith))
 
 add-put-address : tie.Need-add-put-address Inv-loop μ-loop
 add-put-address c =
-    let at-args = c .before .before .before .before .before in
-    omega (
-      arith,
-      address-room (c .before .before .loop .c) (at-args .args .n) (at-args .args .size)
-          (omega arith),
-      addresses-room (at-args .args .n) (at-args .args .size) (omega arith) (omega arith),
-    )
+    let a = c .before .before .before .before .before .args in
+    omega (arith, address-inside (c .before .before .loop .c) (a .n) (a .size) (omega arith) (omega arith) (omega arith))
 
 put-address-requires : tie.Need-put-address-requires Inv-loop μ-loop
 put-address-requires c κs =
