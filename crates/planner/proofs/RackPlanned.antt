@@ -33,21 +33,26 @@ pub reached : (w : Wiring) (g : Refused) → Refused-is g (reach-refusal w) → 
 reached w g i z = reach-clear w (sym (i .number) ∙ z)
 
 module _ (w : Wiring) (g : Refused) (r : Answer) (ws h : List ℕ) where
-  pub unreached-planned : Refused-is g (reach-refusal w) → g .number ≢ 0 → Refuses (g .number) (g .at) r → length ws ≡ lent-words → length h ≡ lent-hops → Rack-planned w r ws h
+  pub unreached-planned : Refused-is g (reach-refusal w) → g .number ≢ 0 → Refuses (g .number) (g .at) r
+      → length ws ≡ lent-words → length h ≡ lent-hops → Rack-planned w r ws h
   unreached-planned i n =
       planned-refused (rack-refusal w) w r ws h (g .number) (g .at)
       (refusal-of-reach w (λ z. n (i .number ∙ z)) ∙ refusal-of-refused g (reach-refusal w) i) n
 
   module _ (c : connected w ≡ true) (i : Refused-is g (parity-refusal w)) where
-    pub odd-planned : g .number ≢ 0 → Refuses (g .number) (g .at) r → length ws ≡ lent-words → length h ≡ lent-hops → Rack-planned w r ws h
+    pub odd-planned : g .number ≢ 0 → Refuses (g .number) (g .at) r
+        → length ws ≡ lent-words → length h ≡ lent-hops → Rack-planned w r ws h
     odd-planned n =
         planned-refused (rack-refusal w) w r ws h (g .number) (g .at)
         (refusal-of-parity w c (λ z. n (i .number ∙ z)) ∙ refusal-of-refused g (parity-refusal w) i) n
 
-    pub none-planned : (n k : ℕ) → g .number ≡ 0 → k ≡ n → Addressed w n ws k → Refuses 11 0 r → length ws ≡ lent-words → length h ≡ lent-hops → Rack-planned w r ws h
-    none-planned n k z e a = planned-refused (rack-refusal w) w r ws h 11 0 (refusal-of-none w c (sym (i .number) ∙ z) (a .none e)) (λ z. omega arith)
+    pub none-planned : (n k : ℕ) → g .number ≡ 0 → k ≡ n → Addressed w n ws k → Refuses 11 0 r
+        → length ws ≡ lent-words → length h ≡ lent-hops → Rack-planned w r ws h
+    none-planned n k z e a =
+        planned-refused (rack-refusal w) w r ws h 11 0 (refusal-of-none w c (sym (i .number) ∙ z) (a .none e)) (λ z. omega arith)
 
-    pub found-planned : (n k : ℕ) → n ≡ w .cards → g .number ≡ 0 → k < n → Addressed w n ws k → Hops-in w h → r ≡ record { number = 0; at = 0; value = k } → Rack-planned w r ws h
+    pub found-planned : (n k : ℕ) → n ≡ w .cards → g .number ≡ 0 → k < n → Addressed w n ws k → Hops-in w h
+        → r ≡ record { number = 0; at = 0; value = k } → Rack-planned w r ws h
     found-planned n k cards z l a t e =
         rw e
         (planned-found (rack-refusal w) w _ ws h (refusal-of-embedding w c (sym (i .number) ∙ z) (a .embedding l)) refl refl (a .count l)
@@ -55,12 +60,14 @@ module _ (w : Wiring) (g : Refused) (r : Answer) (ws h : List ℕ) where
 
 -- A FILE: 2 to 8, or as its rack
 module _ (bs ws h : List ℕ) where
-  pub sizes-planned : (x : ℕ) (r : Answer) → x ≡ sizes-fault bs → x ≢ 0 → Refuses x 0 r → length ws ≡ lent-words → length h ≡ lent-hops → File-planned bs r ws h
+  pub sizes-planned : (x : ℕ) (r : Answer) → x ≡ sizes-fault bs → x ≢ 0 → Refuses x 0 r
+      → length ws ≡ lent-words → length h ≡ lent-hops → File-planned bs r ws h
   sizes-planned x r e n =
       planned-refused (file-refusal bs) (file-wiring bs) r ws h x 0 (refusal-of-sizes bs (λ z. n (e ∙ z)) ∙ ap (λ (y : ℕ). refusal y 0) (sym e)) n
 
   module _ (z : sizes-fault bs ≡ 0) (g : Refused) (i : Refused-is g (links-refusal (file-wiring bs))) where
-    pub links-planned : (r : Answer) → g .number ≢ 0 → Refuses (g .number) (g .at) r → length ws ≡ lent-words → length h ≡ lent-hops → File-planned bs r ws h
+    pub links-planned : (r : Answer) → g .number ≢ 0 → Refuses (g .number) (g .at) r
+        → length ws ≡ lent-words → length h ≡ lent-hops → File-planned bs r ws h
     links-planned r n =
         planned-refused (file-refusal bs) (file-wiring bs) r ws h (g .number) (g .at)
         (refusal-of-links bs z (λ y. n (i .number ∙ y)) ∙ refusal-of-refused g (links-refusal (file-wiring bs)) i) n

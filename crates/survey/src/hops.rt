@@ -112,8 +112,8 @@ fn sweep_on(file: &[u8], n: usize, m: usize, order: &[u16; MOST_LINKS], bounds: 
 // let all pairs of cards up to d hops apart have their hops as bounds, as they have at the start with d = 0. Where a and b are d + 1 hops
 // apart, a neighbour p of a is d hops from b, and a sweep, when it comes to the link of a and p, lowers row a at place b to d + 1. No
 // bound falls below hops, so after s sweeps all pairs up to s hops apart have theirs. A round has three sweeps (every link of a connected
-// rack stands in the order once), and it is the last if its third one lowers nothing, as where the two before it made all bounds hops.
-// So a third of the diameter, rounded down, and one more are enough: at most 86 rounds for 256 cards.
+// rack stands in the order once). It is the last if its third sweep lowers nothing, so at the latest if its first two have made all bounds
+// hops: a third of the diameter in rounds, rounded down, and one more are enough, and for 256 cards 86.
 fn settle(file: &[u8], n: usize, m: usize, order: &[u16; MOST_LINKS], bounds: &mut [u8])
     requires { ⌜ Formed (now file) n m × Above (file-wiring (now file)) (now bounds) ⌝ }
     ensures { λ _. ⌜ Hops-in (file-wiring (now (file .entry))) (now (bounds .exit)) ⌝ }
