@@ -81,7 +81,11 @@ fn accepted(plan: &[u8]) -> String {
     for card in 0..cards {
         let address = &plan[6 + 4 * links + card * columns.div_ceil(8)..];
         let bits = (0..columns).map(|j| char::from(b'0' + (address[j / 8] >> (j % 8) & 1)));
-        let bits: String = if columns == 0 { "-".into() } else { bits.collect() };
+        let bits: String = if columns == 0 {
+            "-".into()
+        } else {
+            bits.collect()
+        };
         text += &format!("card {card} {bits}\n");
     }
     text
@@ -119,7 +123,8 @@ fn longest_files() -> Vec<(&'static str, Vec<u8>)> {
 
 /// 128 cards on each side, each linked to sixteen of the other side: 2,048 links, no odd loop.
 fn two_sides_of_sixteen_each() -> Rack {
-    let links = (0..16).flat_map(|turn| (0..128).map(move |card| (card, 128 + (card + turn) % 128)));
+    let links =
+        (0..16).flat_map(|turn| (0..128).map(move |card| (card, 128 + (card + turn) % 128)));
     Rack {
         cards: 256,
         links: links.collect(),
