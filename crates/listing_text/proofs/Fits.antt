@@ -6,6 +6,7 @@ use Prim.Native.Nat.{ℕ, zero, suc, _+_, _*_, _^_, _≤_, _<_}
 use native.Mathlib.Omega.{arith}
 use lib.ListN.{length, length-append}
 use borrow.Author.Tests.{eq-eqb, ne-eqb}
+use Rattle.rack.specs.Limits.{most-cards, most-links, most-columns}
 use Rattle.rack.specs.Lists.{blocks}
 use Rattle.rack.specs.Wiring.{Wiring, link-count}
 use Rattle.rack.specs.Columns.{column-count, address}
@@ -32,11 +33,11 @@ length-number-line : (word : List ℕ) (v : ℕ) → length (number-line word v)
 unfolding number-line line-end
 length-number-line word v = simp length-append (omega arith)
 
-address-few : (k : ℕ) (row : ℕ → Bool) → k ≤ 255 → length (address-text k row) ≤ 255
+address-few : (k : ℕ) (row : ℕ → Bool) → k ≤ most-columns → length (address-text k row) ≤ most-columns
 unfolding dash
 address-few k row h = by-eq k 0 (λ e. omega (arith, ap length (address-none k row e))) (λ n. omega (arith, length-columns k row n))
 
-size-lines-few : (n m k : ℕ) → n ≤ 256 → m ≤ 2048 → k ≤ 255 → length (size-lines n m k) ≤ 33
+size-lines-few : (n m k : ℕ) → n ≤ most-cards → m ≤ most-links → k ≤ most-columns → length (size-lines n m k) ≤ 33
 unfolding size-lines cards-word links-word columns-word
 size-lines-few n m k hn hm hk =
     simp length-append
@@ -50,7 +51,7 @@ size-lines-few n m k hn hm hk =
       decimal-few 2 k (omega arith),
     ))
 
-card-line-few : (k : ℕ) (rows : ℕ → ℕ → Bool) (c : ℕ) → k ≤ 255 → c < 256 → length (card-line k rows c) ≤ 265
+card-line-few : (k : ℕ) (rows : ℕ → ℕ → Bool) (c : ℕ) → k ≤ most-columns → c < most-cards → length (card-line k rows c) ≤ 265
 unfolding card-line card-word space line-end
 card-line-few k rows c hk hc = simp length-append (omega (arith, decimal-few 2 c (omega arith), address-few k (rows c) hk))
 
@@ -59,7 +60,7 @@ blocks-few zero b f h = omega arith
 blocks-few (suc n) b f h =
     simp length-append (omega (arith, h 0 (omega arith), blocks-few n b (λ i. f (suc i)) (λ i l. h (suc i) (omega arith))))
 
-rack-lines-few : (n m k : ℕ) (rows : ℕ → ℕ → Bool) → n ≤ 256 → m ≤ 2048 → k ≤ 255 → length (rack-lines n m k rows) ≤ lent-text
+rack-lines-few : (n m k : ℕ) (rows : ℕ → ℕ → Bool) → n ≤ most-cards → m ≤ most-links → k ≤ most-columns → length (rack-lines n m k rows) ≤ lent-text
 unfolding rack-lines
 rack-lines-few n m k rows hn hm hk =
     simp length-append
@@ -85,9 +86,9 @@ refused-few f = simp length-append (omega (arith, decimal-most (f .number), plac
 
 -- A FILE
 pub record Sizes-in (w : Wiring) : Type 0 where
-  pub cards : w .cards ≤ 256
-  pub links : link-count w ≤ 2048
-  pub columns : column-count w ≤ 255
+  pub cards : w .cards ≤ most-cards
+  pub links : link-count w ≤ most-links
+  pub columns : column-count w ≤ most-columns
 
 pub accepted-sizes : (bs : List ℕ) → file-refusal bs .number ≡ 0 → Sizes-in (file-wiring bs)
 accepted-sizes bs z =

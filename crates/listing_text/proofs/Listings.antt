@@ -6,6 +6,7 @@ use Prim.Native.Nat.{ℕ, _≤_, _<_}
 use native.Mathlib.Omega.{arith}
 use lib.ListN.{length, replicate}
 use borrow.Author.Tests.{eq-eqb, ne-eqb}
+use Rattle.rack.specs.Limits.{most-columns}
 use Rattle.rack.specs.Wiring.{Wiring, link-count}
 use Rattle.rack.specs.Columns.{columns, column-count, address}
 use Rattle.rack.specs.Refusals.{refusal}
@@ -28,7 +29,7 @@ use Rattle.listing_text.specs.Planned.{Planned}
 use Rattle.listing_text.proofs.Fits.{accepted-sizes, listing-fits}
 
 -- THE CARD LINES from the words
-module _ (w : Wiring) (ws : List ℕ) (words : Words-of (columns w) (w .cards) ws) (few : column-count w ≤ 255) where
+module _ (w : Wiring) (ws : List ℕ) (words : Words-of (columns w) (w .cards) ws) (few : column-count w ≤ most-columns) where
   digit-address : (c j : ℕ) → c < w .cards → j < column-count w → column-digit (word-bit ws c) j ≡ column-digit (address w c) j
   unfolding address bit-in
   digit-address c j hc hj = rw (word-bit-column (columns w) (w .cards) ws words c j hc (omega arith)) refl
@@ -57,7 +58,7 @@ module _ (bs : List ℕ) (r : Answer) (ws : List ℕ) (p : Planned bs r ws) wher
     pub planned-sizes : Sized bs
     planned-sizes = file-clear bs accepted .0
 
-    pub planned-columns : r .value ≤ 255
+    pub planned-columns : r .value ≤ most-columns
     planned-columns = omega (arith, p .1 .value z, accepted-sizes bs accepted .columns)
 
     pub listing-rack : (n m : ℕ) → n ≡ number-at bs 0 → m ≡ number-at bs 2 → rack-lines n m (r .value) (word-bit ws) ≡ listing bs

@@ -3,7 +3,7 @@ ghost use mathlib.Core.Path.{_≡_};
 ghost use mathlib.Core.List.{_++_};
 ghost use Prim.Native.Nat.{_+_, _<_, _≤_};
 ghost use lib.ListN.{length};
-ghost use Rattle.rack.specs.Limits.{lent-words, most-cards, most-links};
+ghost use Rattle.rack.specs.Limits.{lent-words, most-cards, most-links, most-columns};
 ghost use Rattle.rack.specs.Lists.{tabulate, blocks};
 ghost use Rattle.rack.specs.Refusals.{refusal};
 ghost use Rattle.planner.specs.Words.{word-bit};
@@ -46,7 +46,7 @@ fn put_size_lines(text: &mut [u8], at: usize, n: u32, m: u32, k: u32) -> usize
 
 // The code of column `j` of card `c`: 0 or 1.
 fn column_digit(words: &[u64], c: usize, j: usize) -> u8
-    requires { ⌜ (length (now words) ≡ lent-words) × (c < most-cards) × (j < 256) ⌝ }
+    requires { ⌜ (length (now words) ≡ lent-words) × (c < most-cards) × (j < most-columns) ⌝ }
     ensures { λ r. ⌜ r ≡ column-digit (word-bit (now (words .entry)) c) j ⌝ }
 {
     digit(((words[4 * c + j / 64] >> (j % 64)) % 2) as u32)
@@ -54,7 +54,7 @@ fn column_digit(words: &[u64], c: usize, j: usize) -> u8
 
 // Appends the first `k` columns of card `c`.
 fn put_columns(text: &mut [u8], at: usize, words: &[u64], c: usize, k: usize) -> usize
-    requires { ⌜ (length (now words) ≡ lent-words) × (c < most-cards) × (k < 256) × (at + k ≤ length (now text)) ⌝ }
+    requires { ⌜ (length (now words) ≡ lent-words) × (c < most-cards) × (k ≤ most-columns) × (at + k ≤ length (now text)) ⌝ }
     ensures { λ r. ⌜ Puts at (now (text .entry)) (now (text .exit)) (tabulate k (column-digit (word-bit (now (words .entry)) c))) r ⌝ }
 {
     let mut j: usize = 0;
@@ -67,7 +67,7 @@ fn put_columns(text: &mut [u8], at: usize, words: &[u64], c: usize, k: usize) ->
 
 // Appends the address of card `c`, or - where there are no columns.
 fn put_address(text: &mut [u8], at: usize, words: &[u64], c: usize, k: usize) -> usize
-    requires { ⌜ (length (now words) ≡ lent-words) × (c < most-cards) × (k < 256) × (at + length (address-text k (word-bit (now words) c)) ≤ length (now text)) ⌝ }
+    requires { ⌜ (length (now words) ≡ lent-words) × (c < most-cards) × (k ≤ most-columns) × (at + length (address-text k (word-bit (now words) c)) ≤ length (now text)) ⌝ }
     ensures { λ r. ⌜ Puts at (now (text .entry)) (now (text .exit)) (address-text k (word-bit (now (words .entry)) c)) r ⌝ }
 {
     if k == 0 {
@@ -78,7 +78,7 @@ fn put_address(text: &mut [u8], at: usize, words: &[u64], c: usize, k: usize) ->
 
 // Appends the line of card `c`.
 fn put_card_line(text: &mut [u8], at: usize, words: &[u64], c: usize, k: usize) -> usize
-    requires { ⌜ (length (now words) ≡ lent-words) × (c < most-cards) × (k < 256) × (at + length (card-line k (word-bit (now words)) c) ≤ length (now text)) ⌝ }
+    requires { ⌜ (length (now words) ≡ lent-words) × (c < most-cards) × (k ≤ most-columns) × (at + length (card-line k (word-bit (now words)) c) ≤ length (now text)) ⌝ }
     ensures { λ r. ⌜ Puts at (now (text .entry)) (now (text .exit)) (card-line k (word-bit (now (words .entry))) c) r ⌝ }
 {
     let number_end = put_word_number(text, at, b"card ", c as u32);
@@ -89,7 +89,7 @@ fn put_card_line(text: &mut [u8], at: usize, words: &[u64], c: usize, k: usize) 
 
 // Appends the lines of `n` cards.
 fn put_card_lines(text: &mut [u8], at: usize, words: &[u64], n: usize, k: usize) -> usize
-    requires { ⌜ (length (now words) ≡ lent-words) × (n ≤ most-cards) × (k < 256) × (at + length (blocks n (card-line k (word-bit (now words)))) ≤ length (now text)) ⌝ }
+    requires { ⌜ (length (now words) ≡ lent-words) × (n ≤ most-cards) × (k ≤ most-columns) × (at + length (blocks n (card-line k (word-bit (now words)))) ≤ length (now text)) ⌝ }
     ensures { λ r. ⌜ Puts at (now (text .entry)) (now (text .exit)) (blocks n (card-line k (word-bit (now (words .entry))))) r ⌝ }
 {
     let mut next = at;
@@ -103,7 +103,7 @@ fn put_card_lines(text: &mut [u8], at: usize, words: &[u64], n: usize, k: usize)
 
 // Writes the lines of an accepted rack.
 pub fn put_rack(text: &mut [u8], words: &[u64], n: usize, m: usize, k: usize) -> usize
-    requires { ⌜ (length (now words) ≡ lent-words) × (n ≤ most-cards) × (m ≤ most-links) × (k < 256) × (length (rack-lines n m k (word-bit (now words))) ≤ length (now text)) ⌝ }
+    requires { ⌜ (length (now words) ≡ lent-words) × (n ≤ most-cards) × (m ≤ most-links) × (k ≤ most-columns) × (length (rack-lines n m k (word-bit (now words))) ≤ length (now text)) ⌝ }
     ensures { λ r. ⌜ Puts 0 (now (text .entry)) (now (text .exit)) (rack-lines n m k (word-bit (now (words .entry)))) r ⌝ }
 {
     let cards = put_size_lines(text, 0, n as u32, m as u32, k as u32);
