@@ -15,7 +15,7 @@ use forwarder::walk::Walked;
 use reader::layout::Sizes;
 use reader::read::read_plan;
 
-mod carried;
+pub mod carried;
 
 // A refused opening has its number, no bytes and sizes 0. No call looks at the number.
 pub struct Opened<'a> {

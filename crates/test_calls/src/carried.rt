@@ -1,0 +1,107 @@
+// The calls on an opened plan, over its bytes and any three sizes.
+ghost use mathlib.Core.Path.{_≡_};
+ghost use Rattle.reader.specs.Reading.{Address-says, Read-says, address-refusal};
+ghost use Rattle.forwarder.specs.Calls.{Step-says, Walk-says};
+ghost use Rattle.opened.specs.Opening.{carried-bytes};
+ghost use Rattle.test_calls.specs.Answers.{Told, counts, sizes-in, stepped-in, walked-in};
+use crate::answers::tell_sizes;
+use crate::answers::tell_step;
+use crate::answers::tell_walk;
+use forwarder::walk::Traffic;
+use opened::carried::address_carried;
+use opened::carried::address_refusal_carried;
+use opened::carried::read_carried;
+use opened::carried::step_carried;
+use opened::carried::walk_carried;
+
+#[no_mangle]
+pub extern "C" fn test_read_carried(
+    bytes: &[u8],
+    cards: u32,
+    links: u32,
+    columns: u32,
+    answer: &mut [u32],
+) -> u32
+    ensures { λ r. ⌜ Told 3 r (now (answer .entry)) (now (answer .exit)) Unit (Read-says (carried-bytes (now (bytes .entry)) cards links columns) (sizes-in r (now (answer .exit)))) ⌝ }
+{
+    if answer.len() != 3 {
+        return 1;
+    }
+    tell_sizes(read_carried(bytes, cards, links, columns), answer)
+}
+
+#[no_mangle]
+pub extern "C" fn test_address_carried<'a>(
+    bytes: &'a [u8],
+    cards: u32,
+    links: u32,
+    columns: u32,
+    card: u32,
+    part: &mut &'a [u8],
+)
+    ensures { λ _. ⌜ Address-says (carried-bytes (now (bytes .entry)) cards links columns) (bytes .entry .ptr) card (now (part .exit)) ⌝ }
+{
+    *part = address_carried(bytes, cards, links, columns, card);
+}
+
+#[no_mangle]
+pub extern "C" fn test_address_refusal_carried(
+    bytes: &[u8],
+    cards: u32,
+    links: u32,
+    columns: u32,
+    card: u32,
+) -> u32
+    ensures { λ r. ⌜ r ≡ address-refusal (carried-bytes (now (bytes .entry)) cards links columns) card ⌝ }
+{
+    address_refusal_carried(bytes, cards, links, columns, card)
+}
+
+#[no_mangle]
+pub extern "C" fn test_step_carried(
+    bytes: &[u8],
+    cards: u32,
+    links: u32,
+    columns: u32,
+    from: u32,
+    goal: u32,
+    answer: &mut [u32],
+) -> u32
+    ensures { λ r. ⌜ Told 3 r (now (answer .entry)) (now (answer .exit)) Unit (Step-says (carried-bytes (now (bytes .entry)) cards links columns) from goal (stepped-in r (now (answer .exit)))) ⌝ }
+{
+    if answer.len() != 3 {
+        return 1;
+    }
+    tell_step(
+        step_carried(bytes, cards, links, columns, from, goal),
+        answer,
+    )
+}
+
+#[no_mangle]
+pub extern "C" fn test_walk_carried(
+    bytes: &[u8],
+    cards: u32,
+    links: u32,
+    columns: u32,
+    from: u32,
+    goal: u32,
+    frames: u32,
+    hops: u32,
+    met: &mut [u16],
+    answer: &mut [u32],
+) -> u32
+    ensures { λ r. ⌜ Told 4 r (now (answer .entry)) (now (answer .exit)) (now (met .exit) ≡ now (met .entry)) (Walk-says (carried-bytes (now (bytes .entry)) cards links columns) from goal (counts frames hops) (walked-in r (now (answer .exit))) (now (met .entry)) (now (met .exit))) ⌝ }
+{
+    if answer.len() != 4 {
+        return 1;
+    }
+    let traffic = Traffic {
+        frames: frames,
+        hops: hops,
+    };
+    tell_walk(
+        walk_carried(bytes, cards, links, columns, from, goal, traffic, met),
+        answer,
+    )
+}

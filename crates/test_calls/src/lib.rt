@@ -1,0 +1,88 @@
+// Calls for the tests alone, over calls that the C calls do not show whole. `test_NAME` takes the arguments of NAME in their order, a
+// struct by its fields; it returns the refusal's number and puts the answer's other fields, in their order, into just as many lent
+// numbers. It is 1, and touches nothing, where they are not as many. A part of lent bytes goes into a lent slice.
+ghost use mathlib.Core.Path.{_≡_};
+ghost use Rattle.planner.specs.Planning.{Plan-says};
+ghost use Rattle.reader.specs.Reading.{Address-says, address-refusal};
+ghost use Rattle.forwarder.specs.Calls.{Step-says, Walk-says};
+ghost use Rattle.listing_text.specs.Listing.{Listing-says};
+ghost use Rattle.test_calls.specs.Answers.{Told, answer-in, counts, stepped-in, walked-in};
+use answers::tell_answer;
+use answers::tell_step;
+use answers::tell_walk;
+use forwarder::step::step_frame;
+use forwarder::walk::Traffic;
+use forwarder::walk::walk_frame;
+use listing_text::listing_text;
+use planner::plan_rack;
+use reader::read::card_address;
+
+mod answers;
+pub mod carried;
+
+#[no_mangle]
+pub extern "C" fn test_plan_rack(
+    file: &[u8],
+    words: &mut [u64],
+    hops: &mut [u8],
+    answer: &mut [u32],
+) -> u32
+    ensures { λ r. ⌜ Told 2 r (now (answer .entry)) (now (answer .exit)) ((now (words .exit) ≡ now (words .entry)) × (now (hops .exit) ≡ now (hops .entry))) (Plan-says (now (file .entry)) (answer-in r (now (answer .exit))) (now (words .entry)) (now (words .exit)) (now (hops .entry)) (now (hops .exit))) ⌝ }
+{
+    if answer.len() != 2 {
+        return 1;
+    }
+    tell_answer(plan_rack(file, words, hops), answer)
+}
+
+#[no_mangle]
+pub extern "C" fn test_listing_text(file: &[u8], text: &mut [u8], answer: &mut [u32]) -> u32
+    ensures { λ r. ⌜ Told 2 r (now (answer .entry)) (now (answer .exit)) (now (text .exit) ≡ now (text .entry)) (Listing-says (now (file .entry)) (answer-in r (now (answer .exit))) (now (text .entry)) (now (text .exit))) ⌝ }
+{
+    if answer.len() != 2 {
+        return 1;
+    }
+    tell_answer(listing_text(file, text), answer)
+}
+
+#[no_mangle]
+pub extern "C" fn test_card_address<'a>(plan: &'a [u8], card: u32, part: &mut &'a [u8]) -> u32
+    ensures number { λ r. ⌜ r ≡ address-refusal (now (plan .entry)) card ⌝ }
+    ensures part { λ _. ⌜ Address-says (now (plan .entry)) (plan .entry .ptr) card (now (part .exit)) ⌝ }
+{
+    let mut number: u32 = 0;
+    *part = card_address(plan, card, &mut number);
+    number
+}
+
+#[no_mangle]
+pub extern "C" fn test_step_frame(plan: &[u8], from: u32, goal: u32, answer: &mut [u32]) -> u32
+    ensures { λ r. ⌜ Told 3 r (now (answer .entry)) (now (answer .exit)) Unit (Step-says (now (plan .entry)) from goal (stepped-in r (now (answer .exit)))) ⌝ }
+{
+    if answer.len() != 3 {
+        return 1;
+    }
+    tell_step(step_frame(plan, from, goal), answer)
+}
+
+#[no_mangle]
+pub extern "C" fn test_walk_frame(
+    plan: &[u8],
+    from: u32,
+    goal: u32,
+    frames: u32,
+    hops: u32,
+    met: &mut [u16],
+    answer: &mut [u32],
+) -> u32
+    ensures { λ r. ⌜ Told 4 r (now (answer .entry)) (now (answer .exit)) (now (met .exit) ≡ now (met .entry)) (Walk-says (now (plan .entry)) from goal (counts frames hops) (walked-in r (now (answer .exit))) (now (met .entry)) (now (met .exit))) ⌝ }
+{
+    if answer.len() != 4 {
+        return 1;
+    }
+    let traffic = Traffic {
+        frames: frames,
+        hops: hops,
+    };
+    tell_walk(walk_frame(plan, from, goal, traffic, met), answer)
+}
