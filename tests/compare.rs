@@ -3,6 +3,7 @@
 
 mod both;
 mod calls;
+mod drawn;
 mod faults;
 mod named;
 mod properties;
@@ -10,6 +11,7 @@ mod racks;
 mod second;
 
 use both::{Both, Call, Lengths};
+use drawn::{some_card, some_count, some_length, MOST};
 use faults::{plans, wirings};
 use racks::kinds::SHAPES;
 use racks::{Rack, Rng};
@@ -19,7 +21,6 @@ const ROUNDS: u64 = 4_000;
 const FEWEST_CALLS: u64 = 20_000;
 /// The most cards for the slow test of whole sides.
 const SMALL: usize = 14;
-const MOST: u32 = u32::MAX;
 
 fn main() {
     let mut numbers = std::env::args()
@@ -212,35 +213,6 @@ fn count_limits(both: &mut Both, plan: &[u8], [from, to]: [u32; 2], [arrived, ho
     }
 }
 
-/// Mostly a card of the plan, at times a number near or beyond the last one.
-fn some_card(rng: &mut Rng, plan: &[u8]) -> u32 {
-    let cards = match plan {
-        [low, high, ..] => u32::from(u16::from_le_bytes([*low, *high])).max(1),
-        _ => 1,
-    };
-    let any = rng.draw() as u32;
-    match rng.below(16) {
-        0 => rng.pick(&[
-            cards,
-            cards - 1,
-            cards + 1,
-            256,
-            65_536,
-            65_536 + cards - 1,
-            MOST,
-            any,
-        ]),
-        1 => cards - 1,
-        _ => any % cards,
-    }
-}
-
-fn some_count(rng: &mut Rng) -> u32 {
-    let any = rng.draw() as u32;
-    let near = MOST - rng.below(260) as u32;
-    rng.pick(&[0, 1, any, any, near, near, MOST - 1, MOST])
-}
-
 /// Makes calls with at least one buffer of a wrong length; 1 comes before every other number.
 fn wrong_lengths(both: &mut Both, rng: &mut Rng, calls: &[Call], input: &[u8]) {
     for &call in calls {
@@ -255,12 +227,5 @@ fn wrong_lengths(both: &mut Both, rng: &mut Rng, calls: &[Call], input: &[u8]) {
         let counts = [some_count(rng), some_count(rng)];
         let answer = both.call(call, input, lengths, counts);
         both.expect(answer.code == 1, "a wrong length is not 1", input, &answer);
-    }
-}
-
-fn some_length(rng: &mut Rng, right: usize) -> usize {
-    match right {
-        0 => 0,
-        _ => rng.pick(&[0, right - 1, right, right, right + 1]),
     }
 }

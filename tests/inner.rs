@@ -1,0 +1,177 @@
+//! Compares the calls of libtest_calls.a with the second implementation: `inner [SEED] [ROUNDS]`.
+//! A round plans and lists a rack and faulty files, and makes calls on its plan, on damaged ones and on one made up.
+
+mod drawn;
+#[allow(dead_code)]
+mod faults;
+mod inner_both;
+mod inner_calls;
+mod inner_second;
+#[allow(dead_code)]
+mod racks;
+#[allow(dead_code)]
+mod second;
+
+use drawn::{some_card, some_count, some_length};
+use faults::{plans, wirings};
+use inner_both::{Both, Call, Lengths, Name, NAMES};
+use racks::kinds::SHAPES;
+use racks::Rng;
+
+const SEED: u64 = 20_261_116;
+const ROUNDS: u64 = 1_200;
+const FEWEST_CALLS: u64 = 100_000;
+
+fn main() {
+    let mut numbers = std::env::args()
+        .skip(1)
+        .map(|text| match text.parse::<u64>() {
+            Ok(number) => number,
+            Err(_) => stop(&format!(
+                "{text} is not a number. Use: inner [SEED] [ROUNDS]"
+            )),
+        });
+    let seed = numbers.next().unwrap_or(SEED);
+    let given_rounds = numbers.next();
+    let rounds = given_rounds.unwrap_or(ROUNDS);
+    let mut both = Both::new(seed);
+    let mut rng = Rng::new(seed);
+    for round in 0..rounds {
+        both.round = round;
+        run_round(&mut both, &mut rng);
+    }
+    report(&both, rounds);
+    if given_rounds.is_none() {
+        check_reach(&both);
+    }
+}
+
+fn stop(message: &str) -> ! {
+    println!("{message}");
+    std::process::exit(1)
+}
+
+fn report(both: &Both, rounds: u64) {
+    println!("inner: {rounds} rounds, {} calls agree", both.calls());
+    for name in NAMES {
+        let seen = both.seen[name as usize].iter().enumerate();
+        let counts: Vec<String> = seen
+            .filter(|(_, &count)| count > 0)
+            .map(|(number, count)| format!("{number}: {count}"))
+            .collect();
+        println!("{name:?} by number {}", counts.join(", "));
+    }
+    let ([stuck, arrived, onward], ends) = (both.outcomes, both.ends);
+    println!(
+        "steps stuck {stuck}, arrived {arrived}, over a link {onward}; walks stuck {}, arrived {}",
+        ends[0], ends[1]
+    );
+}
+
+/// Every number that a call can be answered with was met and no other, and every end of steps and walks.
+fn check_reach(both: &Both) {
+    for name in NAMES {
+        for (number, &count) in both.seen[name as usize].iter().enumerate() {
+            if name.numbers().contains(&number) != (count > 0) {
+                stop(&format!(
+                    "FAILED: {name:?} was answered with {number} {count} times"
+                ));
+            }
+        }
+    }
+    if both.outcomes.contains(&0) || both.ends.contains(&0) {
+        stop("FAILED: a step or a walk never ended in one of its ways");
+    }
+    if both.calls() < FEWEST_CALLS {
+        stop(&format!(
+            "FAILED: fewer than {FEWEST_CALLS} calls were made"
+        ));
+    }
+}
+
+fn run_round(both: &mut Both, rng: &mut Rng) {
+    let shape = &SHAPES[both.round as usize % SHAPES.len()];
+    let rack = (shape.make)(rng).shuffled(rng);
+    let wiring = rack.bytes();
+    plan_file(both, rng, &wiring);
+    for _ in 0..3 {
+        let faulty = wirings::faulty_wiring(rng, &rack);
+        plan_file(both, rng, &faulty.wiring);
+    }
+    if let Ok(planned) = second::planner::plan(&wiring) {
+        let plan = planned.bytes();
+        follow_plan(both, rng, &plan, 50);
+        for _ in 0..4 {
+            let damaged = plans::damaged_plan(rng, &plan);
+            follow_plan(both, rng, &damaged, 15);
+        }
+    }
+    let made_up = plans::made_up_plan(rng);
+    follow_plan(both, rng, &made_up, 30);
+}
+
+/// Plans and lists a wiring file, now and then with buffers of wrong lengths.
+fn plan_file(both: &mut Both, rng: &mut Rng, file: &[u8]) {
+    let numbers = Call {
+        name: Name::PlanRack,
+        sizes: [0; 3],
+        from: 0,
+        goal: 0,
+        counts: [0; 2],
+    };
+    for name in [Name::PlanRack, Name::ListingText] {
+        let lengths = some_lengths(rng, name);
+        both.call(Call { name, ..numbers }, file, lengths);
+    }
+}
+
+/// Makes any calls on a plan, sound or not.
+fn follow_plan(both: &mut Both, rng: &mut Rng, plan: &[u8], calls: usize) {
+    for _ in 0..calls {
+        let call = Call {
+            name: rng.pick(&NAMES[2..]),
+            sizes: some_sizes(rng, plan),
+            from: some_card(rng, plan),
+            goal: some_card(rng, plan),
+            counts: [some_count(rng), some_count(rng)],
+        };
+        let lengths = some_lengths(rng, call.name);
+        both.call(call, plan, lengths);
+    }
+}
+
+/// Mostly the sizes in the bytes; else one of them is another.
+fn some_sizes(rng: &mut Rng, plan: &[u8]) -> [u32; 3] {
+    let number = |at: usize| {
+        plan.get(at..at + 2)
+            .map_or(0, |two| u32::from(two[0]) + 256 * u32::from(two[1]))
+    };
+    let mut sizes = [number(0), number(2), number(4)];
+    if rng.below(4) == 0 {
+        let (size, any) = (rng.below(3), rng.draw() as u32);
+        let old = sizes[size];
+        sizes[size] = rng.pick(&[
+            0,
+            old.wrapping_sub(1),
+            old + 1,
+            old + 65_536,
+            sizes[(size + 1) % 3],
+            any,
+        ]);
+    }
+    sizes
+}
+
+/// Mostly the right lengths.
+fn some_lengths(rng: &mut Rng, name: Name) -> Lengths {
+    let right = name.lengths();
+    if rng.below(12) > 0 {
+        return right;
+    }
+    Lengths {
+        words: some_length(rng, right.words),
+        bytes: some_length(rng, right.bytes),
+        met: some_length(rng, right.met),
+        fields: some_length(rng, right.fields),
+    }
+}

@@ -1,0 +1,228 @@
+//! One call made on libtest_calls.a and on the second implementation, and all that they hand back compared.
+
+use crate::racks::Rng;
+use crate::{inner_calls, inner_second};
+
+/// Items on each side of a lent buffer that no call may touch.
+const MARGIN: usize = 16;
+const SHOWN: usize = 400;
+
+#[derive(Clone, Copy, Debug, PartialEq)]
+pub enum Name {
+    PlanRack,
+    ListingText,
+    CardAddress,
+    StepFrame,
+    WalkFrame,
+    ReadCarried,
+    /// Both calls: the part, and the number beside it.
+    AddressCarried,
+    StepCarried,
+    WalkCarried,
+}
+
+pub const NAMES: [Name; 9] = [
+    Name::PlanRack,
+    Name::ListingText,
+    Name::CardAddress,
+    Name::StepFrame,
+    Name::WalkFrame,
+    Name::ReadCarried,
+    Name::AddressCarried,
+    Name::StepCarried,
+    Name::WalkCarried,
+];
+
+/// How many items are lent for words, for bytes (hops or text), for cards met, and for the answer's fields.
+#[derive(Clone, Copy, Debug, Default, PartialEq)]
+pub struct Lengths {
+    pub words: usize,
+    pub bytes: usize,
+    pub met: usize,
+    pub fields: usize,
+}
+
+impl Name {
+    pub fn lengths(self) -> Lengths {
+        let none = Lengths::default();
+        match self {
+            Name::PlanRack => Lengths {
+                words: 1_024,
+                bytes: 65_536,
+                fields: 2,
+                ..none
+            },
+            Name::ListingText => Lengths {
+                bytes: 67_873,
+                fields: 2,
+                ..none
+            },
+            Name::CardAddress | Name::AddressCarried => none,
+            Name::StepFrame | Name::ReadCarried | Name::StepCarried => {
+                Lengths { fields: 3, ..none }
+            }
+            Name::WalkFrame | Name::WalkCarried => Lengths {
+                met: 256,
+                fields: 4,
+                ..none
+            },
+        }
+    }
+
+    /// The numbers that it can be answered with.
+    pub fn numbers(self) -> &'static [usize] {
+        match self {
+            Name::PlanRack => &[0, 1, 2, 3, 4, 5, 6, 7, 8, 9, 10, 11],
+            Name::ListingText => &[0, 1],
+            Name::CardAddress | Name::AddressCarried => &[0, 12, 13, 14],
+            Name::StepFrame | Name::StepCarried => &[0, 1, 12, 14],
+            Name::WalkFrame | Name::WalkCarried => &[0, 1, 12, 14, 15],
+            Name::ReadCarried => &[0, 1, 12, 13],
+        }
+    }
+
+    /// Whether a part of the input is handed out.
+    pub fn hands_out(self) -> bool {
+        matches!(self, Name::CardAddress | Name::AddressCarried)
+    }
+}
+
+/// A call and its numbers; each call takes those that it has. An address is that of card `from`.
+#[derive(Clone, Copy, Debug)]
+pub struct Call {
+    pub name: Name,
+    pub sizes: [u32; 3],
+    pub from: u32,
+    pub goal: u32,
+    pub counts: [u32; 2],
+}
+
+/// A lent buffer between its margins.
+#[derive(Clone, PartialEq)]
+pub struct Lent<T>(Vec<T>);
+
+impl<T> Lent<T> {
+    fn noise(rng: &mut Rng, len: usize, item: fn(u64) -> T) -> Lent<T> {
+        Lent((0..len + 2 * MARGIN).map(|_| item(rng.draw())).collect())
+    }
+
+    pub fn items(&self) -> &[T] {
+        &self.0[MARGIN..self.0.len() - MARGIN]
+    }
+
+    pub fn items_mut(&mut self) -> &mut [T] {
+        let end = self.0.len() - MARGIN;
+        &mut self.0[MARGIN..end]
+    }
+}
+
+impl<T: PartialEq + std::fmt::Debug> Lent<T> {
+    /// Where two buffers differ first; a place before 0 or behind the end is in a margin.
+    fn difference(&self, other: &Lent<T>, name: &str) -> Option<String> {
+        let at = self.0.iter().zip(&other.0).position(|(x, y)| x != y)?;
+        let (place, x, y) = (at as i64 - MARGIN as i64, &self.0[at], &other.0[at]);
+        Some(format!("{name} {place}: library {x:?}, second {y:?}\n"))
+    }
+}
+
+/// All that is lent to a call, and the part of its input that it handed out: how far in it begins, and its length.
+#[derive(Clone, PartialEq)]
+pub struct Lents {
+    pub words: Lent<u64>,
+    pub bytes: Lent<u8>,
+    pub met: Lent<u16>,
+    pub fields: Lent<u32>,
+    pub part: Option<(usize, usize)>,
+}
+
+impl Lents {
+    fn noise(rng: &mut Rng, lengths: Lengths) -> Lents {
+        Lents {
+            words: Lent::noise(rng, lengths.words, |x| x),
+            bytes: Lent::noise(rng, lengths.bytes, |x| x as u8),
+            met: Lent::noise(rng, lengths.met, |x| x as u16),
+            fields: Lent::noise(rng, lengths.fields, |x| x as u32),
+            part: None,
+        }
+    }
+
+    fn differences(&self, other: &Lents) -> String {
+        let places = [
+            self.words.difference(&other.words, "word"),
+            self.bytes.difference(&other.bytes, "byte"),
+            self.met.difference(&other.met, "card met"),
+            self.fields.difference(&other.fields, "field"),
+        ];
+        let places: String = places.into_iter().flatten().collect();
+        format!("{places}parts: {:?}, {:?}\n", self.part, other.part)
+    }
+}
+
+/// Makes calls and counts the numbers of their answers.
+pub struct Both {
+    seed: u64,
+    pub round: u64,
+    noise: Rng,
+    /// For each call, how often each number was the answer.
+    pub seen: [[u64; 16]; NAMES.len()],
+    /// How often a step was stuck, had arrived, or went over a link.
+    pub outcomes: [u64; 3],
+    /// How often a walk was stuck, or arrived.
+    pub ends: [u64; 2],
+}
+
+impl Both {
+    pub fn new(seed: u64) -> Both {
+        Both {
+            seed,
+            round: 0,
+            noise: Rng::new(!seed),
+            seen: Default::default(),
+            outcomes: [0; 3],
+            ends: [0; 2],
+        }
+    }
+
+    pub fn calls(&self) -> u64 {
+        self.seen.iter().flatten().sum()
+    }
+
+    pub fn call(&mut self, call: Call, input: &[u8], lengths: Lengths) {
+        let mut ours = Lents::noise(&mut self.noise, lengths);
+        let mut theirs = ours.clone();
+        let lent_input = input.to_vec();
+        let number = inner_calls::ask(&call, &lent_input, &mut ours);
+        let expected = inner_second::ask(&call, input, &mut theirs);
+        if number != expected || ours != theirs || lent_input != input {
+            let shown = &input[..input.len().min(SHOWN)];
+            let (seed, round) = (self.seed, self.round);
+            println!("FAILED: library {number}, second {expected}");
+            println!(
+                "seed {seed}, round {round}; again with: inner {seed} {}",
+                round + 1
+            );
+            println!("{}{call:?}, {lengths:?}", ours.differences(&theirs));
+            println!(
+                "input changed: {}; {} bytes: {shown:02x?}",
+                lent_input != input,
+                input.len()
+            );
+            std::process::exit(1)
+        }
+        self.count(call.name, number, &ours);
+    }
+
+    fn count(&mut self, name: Name, number: u32, lent: &Lents) {
+        self.seen[name as usize][number as usize] += 1;
+        let fields = lent.fields.items();
+        match name {
+            Name::StepFrame | Name::StepCarried if number == 0 => {
+                self.outcomes[fields[0] as usize] += 1
+            }
+            Name::WalkFrame | Name::WalkCarried if number == 0 => {
+                self.ends[fields[0] as usize] += 1
+            }
+            _ => {}
+        }
+    }
+}

@@ -1,0 +1,151 @@
+//! The calls of libtest_calls.a, over slices.
+
+use crate::inner_both::{Call, Lents, Name};
+
+/// A slice as the library hands it out.
+#[repr(C)]
+struct Part {
+    start: *const u8,
+    length: usize,
+}
+
+extern "C" {
+    fn test_plan_rack(
+        file: *const u8,
+        file_len: usize,
+        words: *mut u64,
+        words_len: usize,
+        hops: *mut u8,
+        hops_len: usize,
+        answer: *mut u32,
+        answer_len: usize,
+    ) -> u32;
+    fn test_listing_text(
+        file: *const u8,
+        file_len: usize,
+        text: *mut u8,
+        text_len: usize,
+        answer: *mut u32,
+        answer_len: usize,
+    ) -> u32;
+    fn test_card_address(plan: *const u8, plan_len: usize, card: u32, part: *mut Part) -> u32;
+    fn test_step_frame(
+        plan: *const u8,
+        plan_len: usize,
+        from: u32,
+        goal: u32,
+        answer: *mut u32,
+        answer_len: usize,
+    ) -> u32;
+    fn test_walk_frame(
+        plan: *const u8,
+        plan_len: usize,
+        from: u32,
+        goal: u32,
+        frames: u32,
+        hops: u32,
+        met: *mut u16,
+        met_len: usize,
+        answer: *mut u32,
+        answer_len: usize,
+    ) -> u32;
+    fn test_read_carried(
+        bytes: *const u8,
+        bytes_len: usize,
+        cards: u32,
+        links: u32,
+        columns: u32,
+        answer: *mut u32,
+        answer_len: usize,
+    ) -> u32;
+    fn test_address_carried(
+        bytes: *const u8,
+        bytes_len: usize,
+        cards: u32,
+        links: u32,
+        columns: u32,
+        card: u32,
+        part: *mut Part,
+    );
+    fn test_address_refusal_carried(
+        bytes: *const u8,
+        bytes_len: usize,
+        cards: u32,
+        links: u32,
+        columns: u32,
+        card: u32,
+    ) -> u32;
+    fn test_step_carried(
+        bytes: *const u8,
+        bytes_len: usize,
+        cards: u32,
+        links: u32,
+        columns: u32,
+        from: u32,
+        goal: u32,
+        answer: *mut u32,
+        answer_len: usize,
+    ) -> u32;
+    fn test_walk_carried(
+        bytes: *const u8,
+        bytes_len: usize,
+        cards: u32,
+        links: u32,
+        columns: u32,
+        from: u32,
+        goal: u32,
+        frames: u32,
+        hops: u32,
+        met: *mut u16,
+        met_len: usize,
+        answer: *mut u32,
+        answer_len: usize,
+    ) -> u32;
+}
+
+/// The library's answer. A part is told by how far behind the input's first byte it begins.
+pub fn ask(call: &Call, input: &[u8], lent: &mut Lents) -> u32 {
+    let (start, long) = (input.as_ptr(), input.len());
+    let Call { from, goal, .. } = *call;
+    let ([n, m, k], [frames, hops]) = (call.sizes, call.counts);
+    let nowhere = &[0u8];
+    let mut part = Part {
+        start: nowhere.as_ptr(),
+        length: nowhere.len(),
+    };
+    let words = lent.words.items_mut();
+    let (words, words_len) = (words.as_mut_ptr(), words.len());
+    let bytes = lent.bytes.items_mut();
+    let (bytes, bytes_len) = (bytes.as_mut_ptr(), bytes.len());
+    let met = lent.met.items_mut();
+    let (met, met_len) = (met.as_mut_ptr(), met.len());
+    let fields = lent.fields.items_mut();
+    let (fields, count) = (fields.as_mut_ptr(), fields.len());
+    let number = unsafe {
+        match call.name {
+            Name::PlanRack => test_plan_rack(
+                start, long, words, words_len, bytes, bytes_len, fields, count,
+            ),
+            Name::ListingText => test_listing_text(start, long, bytes, bytes_len, fields, count),
+            Name::CardAddress => test_card_address(start, long, from, &mut part),
+            Name::StepFrame => test_step_frame(start, long, from, goal, fields, count),
+            Name::WalkFrame => test_walk_frame(
+                start, long, from, goal, frames, hops, met, met_len, fields, count,
+            ),
+            Name::ReadCarried => test_read_carried(start, long, n, m, k, fields, count),
+            Name::AddressCarried => {
+                test_address_carried(start, long, n, m, k, from, &mut part);
+                test_address_refusal_carried(start, long, n, m, k, from)
+            }
+            Name::StepCarried => test_step_carried(start, long, n, m, k, from, goal, fields, count),
+            Name::WalkCarried => test_walk_carried(
+                start, long, n, m, k, from, goal, frames, hops, met, met_len, fields, count,
+            ),
+        }
+    };
+    if call.name.hands_out() {
+        let offset = (part.start as usize).wrapping_sub(start as usize);
+        lent.part = Some((offset, part.length));
+    }
+    number
+}

@@ -1,0 +1,230 @@
+//! What the calls of libtest_calls.a mean, by the rules alone, over the second implementation.
+
+use crate::inner_both::{Call, Lents, Name};
+use crate::second::planner::{all_hops, plan};
+use crate::second::plans::Layout;
+
+const CARDS: usize = 256;
+
+/// The answer's fields go into lent numbers; where these are not as many, the call is 1 and touches nothing.
+pub fn ask(call: &Call, input: &[u8], lent: &mut Lents) -> u32 {
+    let right = call.name.lengths();
+    if lent.fields.items().len() != right.fields {
+        return 1;
+    }
+    match call.name {
+        Name::PlanRack => plan_rack(call, input, lent),
+        Name::ListingText => listing_text(call, input, lent),
+        Name::CardAddress => address(call, input, lent),
+        Name::StepFrame => step_frame(call, input, lent),
+        Name::WalkFrame => walk_frame(call, input, lent),
+        Name::ReadCarried => read(carried(call, input), lent),
+        Name::AddressCarried => address(call, carried(call, input), lent),
+        Name::StepCarried => step_frame(call, carried(call, input), lent),
+        Name::WalkCarried => walk_frame(call, carried(call, input), lent),
+    }
+}
+
+/// An opened plan whose sizes differ from those in its bytes is 12 in every call, as no bytes are.
+fn carried<'a>(call: &Call, bytes: &'a [u8]) -> &'a [u8] {
+    match Layout::new(bytes) {
+        Ok(plan)
+            if [plan.cards, plan.links, plan.columns] == call.sizes.map(|size| size as usize) =>
+        {
+            bytes
+        }
+        _ => &[],
+    }
+}
+
+fn put(lent: &mut Lents, fields: &[usize]) {
+    for (place, &field) in lent.fields.items_mut().iter_mut().zip(fields) {
+        *place = field as u32;
+    }
+}
+
+/// Four words a card; column j is bit j mod 64 of word j / 64. The hops stand at 256 times from plus to.
+fn plan_rack(call: &Call, file: &[u8], lent: &mut Lents) -> u32 {
+    let right = call.name.lengths();
+    put(lent, &[0, 0]);
+    let (words, hops) = (lent.words.items_mut(), lent.bytes.items_mut());
+    if words.len() != right.words || hops.len() != right.bytes {
+        return 1;
+    }
+    words.fill(0);
+    hops.fill(0);
+    let planned = match plan(file) {
+        Ok(planned) => planned,
+        Err(refusal) => {
+            put(lent, &[refusal.at, 0]);
+            return refusal.number;
+        }
+    };
+    for (places, address) in words.chunks_exact_mut(4).zip(&planned.addresses) {
+        places.copy_from_slice(address);
+    }
+    let rows = all_hops(&planned.wiring).unwrap_or_default();
+    for (places, row) in hops.chunks_exact_mut(CARDS).zip(rows) {
+        for (place, hops) in places.iter_mut().zip(row) {
+            *place = hops as u8;
+        }
+    }
+    put(lent, &[0, planned.columns]);
+    0
+}
+
+fn listing_text(call: &Call, file: &[u8], lent: &mut Lents) -> u32 {
+    put(lent, &[0, 0]);
+    let text = lent.bytes.items_mut();
+    if text.len() != call.name.lengths().bytes {
+        return 1;
+    }
+    let listing = listing(file);
+    text.fill(0);
+    text[..listing.len()].copy_from_slice(listing.as_bytes());
+    put(lent, &[0, listing.len()]);
+    0
+}
+
+fn listing(file: &[u8]) -> String {
+    let planned = match plan(file) {
+        Ok(planned) => planned,
+        Err(refusal) => {
+            let (number, at) = (refusal.number, refusal.at);
+            return match number {
+                6 | 7 | 8 | 10 => format!("refused {number} link {at}\n"),
+                9 => format!("refused 9 card {at}\n"),
+                _ => format!("refused {number}\n"),
+            };
+        }
+    };
+    let (n, m, k) = (
+        planned.wiring.cards,
+        planned.wiring.links.len(),
+        planned.columns,
+    );
+    let mut text = format!("cards {n}\nlinks {m}\ncolumns {k}\n");
+    for (card, address) in planned.addresses.iter().enumerate() {
+        text += &format!("card {card} ");
+        if k == 0 {
+            text.push('-');
+        }
+        text.extend((0..k).map(|j| {
+            if address[j / 64] >> (j % 64) & 1 == 1 {
+                '1'
+            } else {
+                '0'
+            }
+        }));
+        text.push('\n');
+    }
+    text
+}
+
+fn read(plan: &[u8], lent: &mut Lents) -> u32 {
+    put(lent, &[0, 0, 0]);
+    match Layout::read(plan) {
+        Ok(plan) => {
+            put(lent, &[plan.cards, plan.links, plan.columns]);
+            0
+        }
+        Err(refusal) => refusal.number,
+    }
+}
+
+/// With a refusal the part is empty, at the plan's first byte.
+fn address(call: &Call, plan: &[u8], lent: &mut Lents) -> u32 {
+    lent.part = Some((0, 0));
+    let plan = match Layout::read(plan) {
+        Ok(plan) => plan,
+        Err(refusal) => return refusal.number,
+    };
+    let card = call.from as usize;
+    if card >= plan.cards {
+        return 14;
+    }
+    let size = plan.columns.div_ceil(8);
+    lent.part = Some((6 + 4 * plan.links + card * size, size));
+    0
+}
+
+/// The plan's layout, with both cards of a frame in it: 12, 14.
+fn frame<'a>(call: &Call, plan: &'a [u8]) -> Result<(Layout<'a>, usize, usize), u32> {
+    let plan = Layout::new(plan).map_err(|refusal| refusal.number)?;
+    let (from, goal) = (call.from as usize, call.goal as usize);
+    if from >= plan.cards || goal >= plan.cards {
+        return Err(14);
+    }
+    Ok((plan, from, goal))
+}
+
+/// Stuck, arrived, or over a link of the card to its far card: the first, rising, whose far address differs from the
+/// goal's in fewer places than the card's own does.
+fn step(plan: &Layout, at: usize, goal: usize) -> [usize; 3] {
+    if at == goal {
+        return [1, 0, 0];
+    }
+    let goal = plan.address(goal);
+    let places = |card: usize| -> u32 {
+        let pairs = plan.address(card).into_iter().zip(goal);
+        pairs.map(|(x, y)| (x ^ y).count_ones()).sum()
+    };
+    let end = |ends: &[u8], link: usize| {
+        usize::from(ends[2 * link]) + 256 * usize::from(ends[2 * link + 1])
+    };
+    let own = places(at);
+    for link in 0..plan.links {
+        let (p, q) = (end(plan.firsts, link), end(plan.seconds, link));
+        if p >= plan.cards || q >= plan.cards || (p != at && q != at) {
+            continue;
+        }
+        let far = if p == at { q } else { p };
+        if places(far) < own {
+            return [2, link, far];
+        }
+    }
+    [0, 0, 0]
+}
+
+fn step_frame(call: &Call, plan: &[u8], lent: &mut Lents) -> u32 {
+    put(lent, &[0, 0, 0]);
+    match frame(call, plan) {
+        Ok((plan, from, goal)) => {
+            put(lent, &step(&plan, from, goal));
+            0
+        }
+        Err(number) => number,
+    }
+}
+
+/// With a refusal the counts come back as they were.
+fn walk_frame(call: &Call, plan: &[u8], lent: &mut Lents) -> u32 {
+    let [frames, total] = call.counts.map(|count| count as usize);
+    put(lent, &[0, 0, frames, total]);
+    if lent.met.items().len() != call.name.lengths().met {
+        return 1;
+    }
+    let (plan, from, goal) = match frame(call, plan) {
+        Ok(found) => found,
+        Err(number) => return number,
+    };
+    let mut met = vec![from];
+    let mut last = step(&plan, from, goal);
+    while let [2, _, far] = last {
+        met.push(far);
+        last = step(&plan, far, goal);
+    }
+    let (arrived, hops) = (last[0], met.len() - 1);
+    let most = u32::MAX as usize;
+    let (frames, total) = (frames + arrived, total + arrived * hops);
+    if frames > most || total > most {
+        return 15;
+    }
+    let places = lent.met.items_mut();
+    places.fill(0);
+    for (place, &card) in places.iter_mut().zip(&met) {
+        *place = card as u16;
+    }
+    put(lent, &[arrived, hops, frames, total]);
+    0
+}
