@@ -1,10 +1,13 @@
 -- Answers as the tests read them: the refusal's number, and the other fields in lent numbers. Assumes nothing: these are definitions.
 use mathlib.Core.Path.{_≡_}
+use mathlib.Core.Bool.{cond}
 use mathlib.Core.Logic.{_≢_}
-use mathlib.Core.List.{List}
+use mathlib.Core.List.{List, []}
 use Prim.Native.Nat.{ℕ}
+use lib.Dec.{eqb}
 use lib.ListN.{length, getD}
 use Rattle.planner.specs.declared.Answer.{Answer}
+use Rattle.reader.specs.Plan.{plan-refusal}
 use Rattle.reader.specs.declared.layout.Sizes.{Sizes}
 use Rattle.forwarder.specs.declared.step.Stepped.{Stepped}
 use Rattle.forwarder.specs.declared.walk.Traffic.{Traffic}
@@ -30,3 +33,7 @@ walked-in x ys = record { number = x; arrived = getD ys 0 0; hops = getD ys 1 0;
 pub record Told (fields : ℕ) (r : ℕ) (old new : List ℕ) (Kept Says : Type 0) : Type 0 where
   pub right : length old ≡ fields → Says
   pub wrong : length old ≢ fields → (r ≡ 1) × (new ≡ old) × Kept
+
+-- what the calls on a plan see that was opened for them: its bytes, or none of them where reading refuses it
+unfoldable pub opened-for : List ℕ → List ℕ
+opened-for ps = cond (eqb (plan-refusal ps) 0) ps []

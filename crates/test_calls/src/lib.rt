@@ -19,6 +19,7 @@ use reader::read::card_address;
 
 mod answers;
 pub mod carried;
+pub mod opening;
 
 #[no_mangle]
 pub extern "C" fn test_plan_rack(

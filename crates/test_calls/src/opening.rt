@@ -1,0 +1,62 @@
+// Plans that are opened and then stepped and walked on, by the methods themselves.
+ghost use mathlib.Core.Path.{_≡_};
+ghost use Rattle.forwarder.specs.Calls.{Step-says, Walk-says};
+ghost use Rattle.test_calls.specs.Answers.{Told, counts, opened-for, stepped-in, walked-in};
+use crate::answers::tell_step;
+use crate::answers::tell_walk;
+use forwarder::step::Stepped;
+use forwarder::walk::Traffic;
+use forwarder::walk::Walked;
+use opened::open_plan;
+
+// Opens a plan and steps on it.
+fn open_and_step<'a>(bytes: &'a [u8], from: u32, goal: u32) -> Stepped
+    ensures { λ r. ⌜ Step-says (opened-for (now (bytes .entry))) from goal r ⌝ }
+{
+    open_plan(bytes).step(from, goal)
+}
+
+// Opens a plan and walks on it.
+fn open_and_walk<'a>(
+    bytes: &'a [u8],
+    from: u32,
+    goal: u32,
+    traffic: Traffic,
+    met: &mut [u16],
+) -> Walked
+    ensures { λ r. ⌜ Walk-says (opened-for (now (bytes .entry))) from goal traffic r (now (met .entry)) (now (met .exit)) ⌝ }
+{
+    open_plan(bytes).walk(from, goal, traffic, met)
+}
+
+#[no_mangle]
+pub extern "C" fn test_opened_step(bytes: &[u8], from: u32, goal: u32, answer: &mut [u32]) -> u32
+    ensures { λ r. ⌜ Told 3 r (now (answer .entry)) (now (answer .exit)) Unit (Step-says (opened-for (now (bytes .entry))) from goal (stepped-in r (now (answer .exit)))) ⌝ }
+{
+    if answer.len() != 3 {
+        return 1;
+    }
+    tell_step(open_and_step(bytes, from, goal), answer)
+}
+
+#[no_mangle]
+pub extern "C" fn test_opened_walk(
+    bytes: &[u8],
+    from: u32,
+    goal: u32,
+    frames: u32,
+    hops: u32,
+    met: &mut [u16],
+    answer: &mut [u32],
+) -> u32
+    ensures { λ r. ⌜ Told 4 r (now (answer .entry)) (now (answer .exit)) (now (met .exit) ≡ now (met .entry)) (Walk-says (opened-for (now (bytes .entry))) from goal (counts frames hops) (walked-in r (now (answer .exit))) (now (met .entry)) (now (met .exit))) ⌝ }
+{
+    if answer.len() != 4 {
+        return 1;
+    }
+    let traffic = Traffic {
+        frames: frames,
+        hops: hops,
+    };
+    tell_walk(open_and_walk(bytes, from, goal, traffic, met), answer)
+}
