@@ -26,5 +26,6 @@ opened-seen ps at p s = by-eq (plan-refusal ps) 0 whole none
 
     none : plan-refusal ps ≢ 0 → opened-bytes p ≡ opened-for ps
     none h =
-        ap (λ (bs : List ℕ). carried-bytes bs (p .cards) (p .links) (p .columns)) (refused-opening-empty ps at p s (λ e. h (sym (s .number) ∙ e)) .0)
+        ap (λ (bs : List ℕ). carried-bytes bs (p .cards) (p .links) (p .columns))
+        (refused-opening-empty ps at p s (λ e. h (sym (s .number) ∙ e)) .0)
         ∙ none-seen (p .cards) (p .links) (p .columns) ∙ sym (rw (ne-eqb (plan-refusal ps) 0 h) refl)

@@ -14,6 +14,7 @@ use opened::carried::read_carried;
 use opened::carried::step_carried;
 use opened::carried::walk_carried;
 
+// Reading: 1, 12, 13. The fields are the three sizes.
 #[no_mangle]
 pub extern "C" fn test_read_carried(
     bytes: &[u8],
@@ -30,6 +31,7 @@ pub extern "C" fn test_read_carried(
     tell_sizes(read_carried(bytes, cards, links, columns), answer)
 }
 
+// A card's address.
 #[no_mangle]
 pub extern "C" fn test_address_carried<'a>(
     bytes: &'a [u8],
@@ -44,6 +46,7 @@ pub extern "C" fn test_address_carried<'a>(
     *part = address_carried(bytes, cards, links, columns, card);
 }
 
+// The number beside it: 12, 13, 14.
 #[no_mangle]
 pub extern "C" fn test_address_refusal_carried(
     bytes: &[u8],
@@ -57,6 +60,7 @@ pub extern "C" fn test_address_refusal_carried(
     address_refusal_carried(bytes, cards, links, columns, card)
 }
 
+// A step: 1, 12, 14.
 #[no_mangle]
 pub extern "C" fn test_step_carried(
     bytes: &[u8],
@@ -78,6 +82,7 @@ pub extern "C" fn test_step_carried(
     )
 }
 
+// A walk: 1, 12, 14, 15.
 #[no_mangle]
 pub extern "C" fn test_walk_carried(
     bytes: &[u8],

@@ -21,6 +21,7 @@ mod answers;
 pub mod carried;
 pub mod opening;
 
+// Planning: 1 to 11. The fields are the link or card, and the columns.
 #[no_mangle]
 pub extern "C" fn test_plan_rack(
     file: &[u8],
@@ -36,6 +37,7 @@ pub extern "C" fn test_plan_rack(
     tell_answer(plan_rack(file, words, hops), answer)
 }
 
+// The listing: 1. The fields are 0, and its length.
 #[no_mangle]
 pub extern "C" fn test_listing_text(file: &[u8], text: &mut [u8], answer: &mut [u32]) -> u32
     ensures { λ r. ⌜ Told 2 r (now (answer .entry)) (now (answer .exit)) (now (text .exit) ≡ now (text .entry)) (Listing-says (now (file .entry)) (answer-in r (now (answer .exit))) (now (text .entry)) (now (text .exit))) ⌝ }
@@ -46,6 +48,7 @@ pub extern "C" fn test_listing_text(file: &[u8], text: &mut [u8], answer: &mut [
     tell_answer(listing_text(file, text), answer)
 }
 
+// A card's address: 12, 13, 14.
 #[no_mangle]
 pub extern "C" fn test_card_address<'a>(plan: &'a [u8], card: u32, part: &mut &'a [u8]) -> u32
     ensures number { λ r. ⌜ r ≡ address-refusal (now (plan .entry)) card ⌝ }
@@ -56,6 +59,7 @@ pub extern "C" fn test_card_address<'a>(plan: &'a [u8], card: u32, part: &mut &'
     number
 }
 
+// A step: 1, 12, 14. The fields are its outcome, the link and the far card.
 #[no_mangle]
 pub extern "C" fn test_step_frame(plan: &[u8], from: u32, goal: u32, answer: &mut [u32]) -> u32
     ensures { λ r. ⌜ Told 3 r (now (answer .entry)) (now (answer .exit)) Unit (Step-says (now (plan .entry)) from goal (stepped-in r (now (answer .exit)))) ⌝ }
@@ -66,6 +70,7 @@ pub extern "C" fn test_step_frame(plan: &[u8], from: u32, goal: u32, answer: &mu
     tell_step(step_frame(plan, from, goal), answer)
 }
 
+// A walk: 1, 12, 14, 15. The fields are 1 for arrived or 0 for stuck, the hops, and the two counts.
 #[no_mangle]
 pub extern "C" fn test_walk_frame(
     plan: &[u8],

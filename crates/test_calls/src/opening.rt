@@ -10,25 +10,20 @@ use forwarder::walk::Walked;
 use opened::open_plan;
 
 // Opens a plan and steps on it.
-fn open_and_step<'a>(bytes: &'a [u8], from: u32, goal: u32) -> Stepped
+fn open_and_step(bytes: &[u8], from: u32, goal: u32) -> Stepped
     ensures { λ r. ⌜ Step-says (opened-for (now (bytes .entry))) from goal r ⌝ }
 {
     open_plan(bytes).step(from, goal)
 }
 
 // Opens a plan and walks on it.
-fn open_and_walk<'a>(
-    bytes: &'a [u8],
-    from: u32,
-    goal: u32,
-    traffic: Traffic,
-    met: &mut [u16],
-) -> Walked
+fn open_and_walk(bytes: &[u8], from: u32, goal: u32, traffic: Traffic, met: &mut [u16]) -> Walked
     ensures { λ r. ⌜ Walk-says (opened-for (now (bytes .entry))) from goal traffic r (now (met .entry)) (now (met .exit)) ⌝ }
 {
     open_plan(bytes).walk(from, goal, traffic, met)
 }
 
+// A step on an opened plan: 1, 12, 14.
 #[no_mangle]
 pub extern "C" fn test_opened_step(bytes: &[u8], from: u32, goal: u32, answer: &mut [u32]) -> u32
     ensures { λ r. ⌜ Told 3 r (now (answer .entry)) (now (answer .exit)) Unit (Step-says (opened-for (now (bytes .entry))) from goal (stepped-in r (now (answer .exit)))) ⌝ }
@@ -39,6 +34,7 @@ pub extern "C" fn test_opened_step(bytes: &[u8], from: u32, goal: u32, answer: &
     tell_step(open_and_step(bytes, from, goal), answer)
 }
 
+// A walk on an opened plan: 1, 12, 14, 15.
 #[no_mangle]
 pub extern "C" fn test_opened_walk(
     bytes: &[u8],

@@ -27,7 +27,8 @@ returns-2 : tie.Need-returns-2
 returns-2 c =
     let a = c .before .before .before .before .before .before .before .before .before .before .before .before .args in
     let listed = c .before .before .before .before .before .before .listing-text in
-    told (λ (x : Answer). Listing-says (a .file .now) x (a .text .now) (listed .last .1 .0)) (omega arith) (c .before .before .tell-answer .ensures) (listed .ensures)
+    told (λ (x : Answer). Listing-says (a .file .now) x (a .text .now) (listed .last .1 .0)) (omega arith)
+    (c .before .before .tell-answer .ensures) (listed .ensures)
 
 pub test-listing-text-spec : {M : Type 1} → statement M
 test-listing-text-spec =

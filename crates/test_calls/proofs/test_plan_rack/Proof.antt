@@ -28,9 +28,11 @@ same-length-3 c = search needs
 
 returns-2 : tie.Need-returns-2
 returns-2 c =
-    let a = c .before .before .before .before .before .before .before .before .before .before .before .before .before .before .before .before .args in
-    let planned = c .before .before .before .before .before .before .before .before .plan-rack in
-    told (λ (x : Answer). Plan-says (a .file .now) x (a .words .now) (planned .last .1 .0) (a .hops .now) (planned .last .1 .1 .0)) (omega arith) (c .before .before .tell-answer .ensures) (planned .ensures .0)
+    let at-plan-rack = c .before .before .before .before .before .before .before .before in
+    let planned = at-plan-rack .plan-rack in
+    let a = at-plan-rack .before .before .before .before .before .before .before .before .args in
+    told (λ (x : Answer). Plan-says (a .file .now) x (a .words .now) (planned .last .1 .0) (a .hops .now) (planned .last .1 .1 .0))
+    (omega arith) (c .before .before .tell-answer .ensures) (planned .ensures .0)
 
 pub test-plan-rack-spec : {M : Type 1} → statement M
 test-plan-rack-spec =

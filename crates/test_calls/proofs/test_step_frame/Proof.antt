@@ -22,7 +22,8 @@ same-length c = search needs
 returns-2 : tie.Need-returns-2
 returns-2 c =
     let a = c .before .before .before .before .before .before .before .before .args in
-    told (λ (s : Stepped). Step-says (a .plan .now) (a .from) (a .goal) s) (omega arith) (c .before .before .tell-step .ensures) (c .before .before .before .before .step-frame .ensures)
+    told (λ (s : Stepped). Step-says (a .plan .now) (a .from) (a .goal) s) (omega arith)
+    (c .before .before .tell-step .ensures) (c .before .before .before .before .step-frame .ensures)
 
 pub test-step-frame-spec : {M : Type 1} → statement M
 test-step-frame-spec =

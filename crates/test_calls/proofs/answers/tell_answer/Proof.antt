@@ -15,7 +15,9 @@ same-length : tie.Need-same-length
 same-length c = search needs
 
 returns : tie.Need-returns
-returns c = ap (answer-in (c .before .before .before .before .before .before .args .a .number)) (c .before .before .put-fields .ensures)
+returns c =
+    ap (answer-in (c .before .before .before .before .before .before .args .a .number))
+    (c .before .before .put-fields .ensures)
 
 pub tell-answer-spec : {M : Type 1} → statement M
 tell-answer-spec =

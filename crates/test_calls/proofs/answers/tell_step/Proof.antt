@@ -15,7 +15,9 @@ same-length : tie.Need-same-length
 same-length c = search needs
 
 returns : tie.Need-returns
-returns c = ap (stepped-in (c .before .before .before .before .before .before .args .s .number)) (c .before .before .put-fields .ensures)
+returns c =
+    ap (stepped-in (c .before .before .before .before .before .before .args .s .number))
+    (c .before .before .put-fields .ensures)
 
 pub tell-step-spec : {M : Type 1} → statement M
 tell-step-spec =

@@ -15,7 +15,9 @@ same-length : tie.Need-same-length
 same-length c = search needs
 
 returns : tie.Need-returns
-returns c = ap (walked-in (c .before .before .before .before .before .before .before .args .w .number)) (c .before .before .put-fields .ensures)
+returns c =
+    ap (walked-in (c .before .before .before .before .before .before .before .args .w .number))
+    (c .before .before .put-fields .ensures)
 
 pub tell-walk-spec : {M : Type 1} → statement M
 tell-walk-spec =

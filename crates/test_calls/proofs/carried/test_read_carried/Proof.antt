@@ -23,7 +23,8 @@ same-length c = search needs
 returns-2 : tie.Need-returns-2
 returns-2 c =
     let a = c .before .before .before .before .before .before .before .before .args in
-    told (λ (s : Sizes). Read-says (carried-bytes (a .bytes .now) (a .cards) (a .links) (a .columns)) s) (omega arith) (c .before .before .tell-sizes .ensures) (c .before .before .before .before .read-carried .ensures .says)
+    told (λ (s : Sizes). Read-says (carried-bytes (a .bytes .now) (a .cards) (a .links) (a .columns)) s) (omega arith)
+    (c .before .before .tell-sizes .ensures) (c .before .before .before .before .read-carried .ensures .says)
 
 pub test-read-carried-spec : {M : Type 1} → statement M
 test-read-carried-spec =

@@ -23,7 +23,8 @@ same-length c = search needs
 returns-2 : tie.Need-returns-2
 returns-2 c =
     let a = c .before .before .before .before .before .before .before .before .args in
-    told (λ (s : Stepped). Step-says (carried-bytes (a .bytes .now) (a .cards) (a .links) (a .columns)) (a .from) (a .goal) s) (omega arith) (c .before .before .tell-step .ensures) (c .before .before .before .before .step-carried .ensures)
+    told (λ (s : Stepped). Step-says (carried-bytes (a .bytes .now) (a .cards) (a .links) (a .columns)) (a .from) (a .goal) s)
+    (omega arith) (c .before .before .tell-step .ensures) (c .before .before .before .before .step-carried .ensures)
 
 pub test-step-carried-spec : {M : Type 1} → statement M
 test-step-carried-spec =

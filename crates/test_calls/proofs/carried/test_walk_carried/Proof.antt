@@ -29,7 +29,9 @@ returns-2 : tie.Need-returns-2
 returns-2 c =
     let a = c .before .before .before .before .before .before .before .before .before .before .before .before .args in
     let walked = c .before .before .before .before .before .before .walk-carried in
-    told (λ (w : Walked). Walk-says (carried-bytes (a .bytes .now) (a .cards) (a .links) (a .columns)) (a .from) (a .goal) (counts (a .frames) (a .hops)) w (a .met .now) (walked .last .1 .1 .1 .1 .1 .1 .1 .0)) (omega arith) (c .before .before .tell-walk .ensures) (walked .ensures .says)
+    told (λ (w : Walked). Walk-says (carried-bytes (a .bytes .now) (a .cards) (a .links) (a .columns)) (a .from) (a .goal)
+    (counts (a .frames) (a .hops)) w (a .met .now) (walked .last .1 .1 .1 .1 .1 .1 .1 .0)) (omega arith)
+    (c .before .before .tell-walk .ensures) (walked .ensures .says)
 
 pub test-walk-carried-spec : {M : Type 1} → statement M
 test-walk-carried-spec =

@@ -23,7 +23,8 @@ same-length c = search needs
 returns-2 : tie.Need-returns-2
 returns-2 c =
     let a = c .before .before .before .before .before .before .before .before .args in
-    told (λ (s : Stepped). Step-says (opened-for (a .bytes .now)) (a .from) (a .goal) s) (omega arith) (c .before .before .tell-step .ensures) (c .before .before .before .before .open-and-step .ensures)
+    told (λ (s : Stepped). Step-says (opened-for (a .bytes .now)) (a .from) (a .goal) s) (omega arith)
+    (c .before .before .tell-step .ensures) (c .before .before .before .before .open-and-step .ensures)
 
 pub test-opened-step-spec : {M : Type 1} → statement M
 test-opened-step-spec =

@@ -28,7 +28,9 @@ returns-2 : tie.Need-returns-2
 returns-2 c =
     let a = c .before .before .before .before .before .before .before .before .before .before .before .before .args in
     let walked = c .before .before .before .before .before .before .open-and-walk in
-    told (λ (w : Walked). Walk-says (opened-for (a .bytes .now)) (a .from) (a .goal) (counts (a .frames) (a .hops)) w (a .met .now) (walked .last .1 .1 .1 .1 .0)) (omega arith) (c .before .before .tell-walk .ensures) (walked .ensures)
+    told (λ (w : Walked). Walk-says (opened-for (a .bytes .now)) (a .from) (a .goal)
+    (counts (a .frames) (a .hops)) w (a .met .now) (walked .last .1 .1 .1 .1 .0)) (omega arith)
+    (c .before .before .tell-walk .ensures) (walked .ensures)
 
 pub test-opened-walk-spec : {M : Type 1} → statement M
 test-opened-walk-spec =
