@@ -19,9 +19,11 @@ pub enum Name {
     AddressCarried,
     StepCarried,
     WalkCarried,
+    OpenedStep,
+    OpenedWalk,
 }
 
-pub const NAMES: [Name; 9] = [
+pub const NAMES: [Name; 11] = [
     Name::PlanRack,
     Name::ListingText,
     Name::CardAddress,
@@ -31,10 +33,23 @@ pub const NAMES: [Name; 9] = [
     Name::AddressCarried,
     Name::StepCarried,
     Name::WalkCarried,
+    Name::OpenedStep,
+    Name::OpenedWalk,
 ];
 
+/// What a call answers.
+#[derive(Clone, Copy, PartialEq)]
+pub enum Kind {
+    Plan,
+    Listing,
+    Address,
+    Sizes,
+    Step,
+    Walk,
+}
+
 /// How many items are lent for words, for bytes (hops or text), for cards met, and for the answer's fields.
-#[derive(Clone, Copy, Debug, Default, PartialEq)]
+#[derive(Clone, Copy, Debug, PartialEq)]
 pub struct Lengths {
     pub words: usize,
     pub bytes: usize,
@@ -43,47 +58,43 @@ pub struct Lengths {
 }
 
 impl Name {
-    pub fn lengths(self) -> Lengths {
-        let none = Lengths::default();
+    pub fn kind(self) -> Kind {
         match self {
-            Name::PlanRack => Lengths {
-                words: 1_024,
-                bytes: 65_536,
-                fields: 2,
-                ..none
-            },
-            Name::ListingText => Lengths {
-                bytes: 67_873,
-                fields: 2,
-                ..none
-            },
-            Name::CardAddress | Name::AddressCarried => none,
-            Name::StepFrame | Name::ReadCarried | Name::StepCarried => {
-                Lengths { fields: 3, ..none }
-            }
-            Name::WalkFrame | Name::WalkCarried => Lengths {
-                met: 256,
-                fields: 4,
-                ..none
-            },
+            Name::PlanRack => Kind::Plan,
+            Name::ListingText => Kind::Listing,
+            Name::CardAddress | Name::AddressCarried => Kind::Address,
+            Name::ReadCarried => Kind::Sizes,
+            Name::StepFrame | Name::StepCarried | Name::OpenedStep => Kind::Step,
+            Name::WalkFrame | Name::WalkCarried | Name::OpenedWalk => Kind::Walk,
+        }
+    }
+
+    pub fn lengths(self) -> Lengths {
+        let [words, bytes, met, fields] = match self.kind() {
+            Kind::Plan => [1_024, 65_536, 0, 2],
+            Kind::Listing => [0, 67_873, 0, 2],
+            Kind::Address => [0; 4],
+            Kind::Sizes | Kind::Step => [0, 0, 0, 3],
+            Kind::Walk => [0, 0, 256, 4],
+        };
+        Lengths {
+            words,
+            bytes,
+            met,
+            fields,
         }
     }
 
     /// The numbers that it can be answered with.
     pub fn numbers(self) -> &'static [usize] {
-        match self {
-            Name::PlanRack => &[0, 1, 2, 3, 4, 5, 6, 7, 8, 9, 10, 11],
-            Name::ListingText => &[0, 1],
-            Name::CardAddress | Name::AddressCarried => &[0, 12, 13, 14],
-            Name::StepFrame | Name::StepCarried => &[0, 1, 12, 14],
-            Name::WalkFrame | Name::WalkCarried => &[0, 1, 12, 14, 15],
-            Name::ReadCarried => &[0, 1, 12, 13],
+        match self.kind() {
+            Kind::Plan => &[0, 1, 2, 3, 4, 5, 6, 7, 8, 9, 10, 11],
+            Kind::Listing => &[0, 1],
+            Kind::Address => &[0, 12, 13, 14],
+            Kind::Sizes => &[0, 1, 12, 13],
+            Kind::Step => &[0, 1, 12, 14],
+            Kind::Walk => &[0, 1, 12, 14, 15],
         }
-    }
-
-    /// Whether a part of the input is handed out.
-    pub fn hands_out(self) -> bool {
-        matches!(self, Name::CardAddress | Name::AddressCarried)
     }
 }
 
@@ -215,13 +226,9 @@ impl Both {
     fn count(&mut self, name: Name, number: u32, lent: &Lents) {
         self.seen[name as usize][number as usize] += 1;
         let fields = lent.fields.items();
-        match name {
-            Name::StepFrame | Name::StepCarried if number == 0 => {
-                self.outcomes[fields[0] as usize] += 1
-            }
-            Name::WalkFrame | Name::WalkCarried if number == 0 => {
-                self.ends[fields[0] as usize] += 1
-            }
+        match (name.kind(), number) {
+            (Kind::Step, 0) => self.outcomes[fields[0] as usize] += 1,
+            (Kind::Walk, 0) => self.ends[fields[0] as usize] += 1,
             _ => {}
         }
     }

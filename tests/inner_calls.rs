@@ -1,6 +1,6 @@
 //! The calls of libtest_calls.a, over slices.
 
-use crate::inner_both::{Call, Lents, Name};
+use crate::inner_both::{Call, Kind, Lents, Name};
 
 /// A slice as the library hands it out.
 #[repr(C)]
@@ -101,6 +101,26 @@ extern "C" {
         answer: *mut u32,
         answer_len: usize,
     ) -> u32;
+    fn test_opened_step(
+        bytes: *const u8,
+        bytes_len: usize,
+        from: u32,
+        goal: u32,
+        answer: *mut u32,
+        answer_len: usize,
+    ) -> u32;
+    fn test_opened_walk(
+        bytes: *const u8,
+        bytes_len: usize,
+        from: u32,
+        goal: u32,
+        frames: u32,
+        hops: u32,
+        met: *mut u16,
+        met_len: usize,
+        answer: *mut u32,
+        answer_len: usize,
+    ) -> u32;
 }
 
 /// The library's answer. A part is told by how far behind the input's first byte it begins.
@@ -141,9 +161,13 @@ pub fn ask(call: &Call, input: &[u8], lent: &mut Lents) -> u32 {
             Name::WalkCarried => test_walk_carried(
                 start, long, n, m, k, from, goal, frames, hops, met, met_len, fields, count,
             ),
+            Name::OpenedStep => test_opened_step(start, long, from, goal, fields, count),
+            Name::OpenedWalk => test_opened_walk(
+                start, long, from, goal, frames, hops, met, met_len, fields, count,
+            ),
         }
     };
-    if call.name.hands_out() {
+    if call.name.kind() == Kind::Address {
         let offset = (part.start as usize).wrapping_sub(start as usize);
         lent.part = Some((offset, part.length));
     }

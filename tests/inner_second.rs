@@ -1,6 +1,6 @@
 //! What the calls of libtest_calls.a mean, by the rules alone, over the second implementation.
 
-use crate::inner_both::{Call, Lents, Name};
+use crate::inner_both::{Call, Kind, Lents, Name};
 use crate::second::planner::{all_hops, plan};
 use crate::second::plans::Layout;
 
@@ -8,32 +8,35 @@ const CARDS: usize = 256;
 
 /// The answer's fields go into lent numbers; where these are not as many, the call is 1 and touches nothing.
 pub fn ask(call: &Call, input: &[u8], lent: &mut Lents) -> u32 {
-    let right = call.name.lengths();
-    if lent.fields.items().len() != right.fields {
+    if lent.fields.items().len() != call.name.lengths().fields {
         return 1;
     }
-    match call.name {
-        Name::PlanRack => plan_rack(call, input, lent),
-        Name::ListingText => listing_text(call, input, lent),
-        Name::CardAddress => address(call, input, lent),
-        Name::StepFrame => step_frame(call, input, lent),
-        Name::WalkFrame => walk_frame(call, input, lent),
-        Name::ReadCarried => read(carried(call, input), lent),
-        Name::AddressCarried => address(call, carried(call, input), lent),
-        Name::StepCarried => step_frame(call, carried(call, input), lent),
-        Name::WalkCarried => walk_frame(call, carried(call, input), lent),
+    let input = seen(call, input);
+    match call.name.kind() {
+        Kind::Plan => plan_rack(call, input, lent),
+        Kind::Listing => listing_text(call, input, lent),
+        Kind::Address => address(call, input, lent),
+        Kind::Sizes => read(input, lent),
+        Kind::Step => step_frame(call, input, lent),
+        Kind::Walk => walk_frame(call, input, lent),
     }
 }
 
-/// An opened plan whose sizes differ from those in its bytes is 12 in every call, as no bytes are.
-fn carried<'a>(call: &Call, bytes: &'a [u8]) -> &'a [u8] {
-    match Layout::new(bytes) {
-        Ok(plan)
-            if [plan.cards, plan.links, plan.columns] == call.sizes.map(|size| size as usize) =>
-        {
-            bytes
+/// An opened plan whose sizes differ from those in its bytes is 12 in every call, as no bytes are; and a refused
+/// opening has no bytes.
+fn seen<'a>(call: &Call, input: &'a [u8]) -> &'a [u8] {
+    let sizes = call.sizes.map(|size| size as usize);
+    let whole = match call.name {
+        Name::ReadCarried | Name::AddressCarried | Name::StepCarried | Name::WalkCarried => {
+            Layout::new(input).is_ok_and(|plan| [plan.cards, plan.links, plan.columns] == sizes)
         }
-        _ => &[],
+        Name::OpenedStep | Name::OpenedWalk => Layout::read(input).is_ok(),
+        _ => true,
+    };
+    if whole {
+        input
+    } else {
+        &[]
     }
 }
 
