@@ -74,7 +74,7 @@ fn print_rack(measured: &Measured) {
 
 /// The longest of the times of some walks, each made again and again.
 fn longest(frames: &[Frame]) -> Times {
-    let times = frames.chunks(1).map(times::walk_in_turn);
+    let times = frames.iter().map(times::repeated_walk);
     times.reduce(Times::worse).expect("a frame")
 }
 
@@ -101,7 +101,10 @@ fn print_plans() {
             links.to_string(),
             answer[1].to_string(),
         ];
-        let times = times::walk_in_turn(&frames).cells();
+        let times = match &frames[..] {
+            [frame] => times::repeated_walk(frame).cells(),
+            frames => times::walk_in_turn(frames).cells(),
+        };
         print_row(&[&[name.to_string()], &sizes[..], &times].concat());
     }
 }

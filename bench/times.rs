@@ -8,8 +8,8 @@ use std::time::Instant;
 
 /// How often a time is taken.
 const SAMPLES: u32 = 300;
-/// How many walks there are at least in a time that is taken.
-const WALKS: usize = 60;
+/// How many hops of repeated walks there are at least in a time that is taken.
+const HOPS: u32 = 64;
 
 type Walk = fn(&[u8], u32, u32, &mut [u8], &mut [u8]) -> u32;
 
@@ -21,16 +21,13 @@ pub struct Times {
 }
 
 impl Times {
+    const NONE: Times = Times {
+        library: f64::INFINITY,
+        second: f64::INFINITY,
+    };
+
     pub fn cells(self) -> [String; 3] {
         [self.library, self.second, self.library / self.second].map(|number| format!("{number:.2}"))
-    }
-
-    /// The time of each of so many calls.
-    fn each(self, calls: usize) -> Times {
-        Times {
-            library: self.library / calls as f64,
-            second: self.second / calls as f64,
-        }
     }
 
     pub fn worse(self, other: Times) -> Times {
@@ -49,10 +46,7 @@ fn microseconds(job: &mut impl FnMut()) -> f64 {
 
 /// Runs two jobs in turn and keeps the best time of each.
 fn best(mut library: impl FnMut(), mut second: impl FnMut()) -> Times {
-    let mut times = Times {
-        library: f64::INFINITY,
-        second: f64::INFINITY,
-    };
+    let mut times = Times::NONE;
     for _ in 0..SAMPLES {
         times.library = times.library.min(microseconds(&mut library));
         times.second = times.second.min(microseconds(&mut second));
@@ -83,17 +77,45 @@ pub fn reading(plan: &[u8]) -> Times {
     )
 }
 
-/// A walk, where the walks of all frames are made in turn; that of a single frame is made again and again.
+fn make_walks(walk: Walk, frame: &Frame, count: u32) {
+    let (from, to) = frame.ends;
+    for _ in 0..count {
+        let (mut met, mut record) = ([0; MET_BYTES], [0; RECORD_BYTES]);
+        let code = walk(black_box(&frame.plan), from, to, &mut met, &mut record);
+        black_box((code, &met, &record));
+    }
+}
+
+/// A walk that is made again and again.
+pub fn repeated_walk(frame: &Frame) -> Times {
+    let [_, hops] = frame.answer;
+    let count = HOPS.div_ceil(hops.max(1));
+    let times = best(
+        || make_walks(calls::walk, frame, count),
+        || make_walks(second::walk, frame, count),
+    );
+    Times {
+        library: times.library / f64::from(count),
+        second: times.second / f64::from(count),
+    }
+}
+
+/// A walk of many that are made in turn: the mean of the best times of each.
 pub fn walk_in_turn(frames: &[Frame]) -> Times {
-    let rounds = WALKS.div_ceil(frames.len());
-    let walk_all = |walk: Walk| {
-        let mut met = [0; MET_BYTES];
-        for Frame { plan, ends, .. } in (0..rounds).flat_map(|_| frames) {
-            let mut record = [0; RECORD_BYTES];
-            let code = walk(black_box(plan), ends.0, ends.1, &mut met, &mut record);
-            black_box((code, &met, &record));
+    let mut times = vec![Times::NONE; frames.len()];
+    for _ in 0..SAMPLES {
+        for (frame, times) in frames.iter().zip(&mut times) {
+            let taken = microseconds(&mut || make_walks(calls::walk, frame, 1));
+            times.library = times.library.min(taken);
         }
-    };
-    let times = best(|| walk_all(calls::walk), || walk_all(second::walk));
-    times.each(rounds * frames.len())
+        for (frame, times) in frames.iter().zip(&mut times) {
+            let taken = microseconds(&mut || make_walks(second::walk, frame, 1));
+            times.second = times.second.min(taken);
+        }
+    }
+    let mean = |time: fn(&Times) -> f64| times.iter().map(time).sum::<f64>() / times.len() as f64;
+    Times {
+        library: mean(|times| times.library),
+        second: mean(|times| times.second),
+    }
 }
