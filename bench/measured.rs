@@ -137,28 +137,25 @@ impl Measured {
     }
 }
 
-/// A plan of 256 cards and 255 columns. Card c has so many ones as given, in its first columns.
-fn made_up_plan(links: Vec<(usize, usize)>, ones: impl Fn(usize) -> usize) -> Vec<u8> {
+/// A plan of 256 cards and 255 columns, and how many ones each card has, in the first columns.
+fn made_up_plan(links: Vec<(usize, usize)>, ones: fn(usize) -> usize) -> Vec<u8> {
     let mut plan = Rack { cards: 256, links }.bytes();
     plan.splice(4..4, [255, 0]);
-    let byte = |ones: usize, at: usize| {
-        let bits = (0..8).map(|bit| u8::from(8 * at + bit < ones) << bit);
-        bits.sum::<u8>()
-    };
-    plan.extend(
-        (0..256)
-            .flat_map(|card| (0..32).map(move |at| (card, at)))
-            .map(|(card, at)| byte(ones(card), at)),
-    );
+    for card in 0..256 {
+        let mut address = [0; 32];
+        for column in 0..ones(card) {
+            address[column / 8] |= 1 << (column % 8);
+        }
+        plan.extend(address);
+    }
     plan
 }
 
 /// From card 0 to card 255, where no other card is nearer to card 255 than card 0.
 fn stuck_frame(name: &'static str, links: Vec<(usize, usize)>) -> Frame {
-    let ones = |card| if card == 255 { 255 } else { 0 };
     Frame {
         name,
-        plan: made_up_plan(links, ones),
+        plan: made_up_plan(links, |card| if card == 255 { 255 } else { 0 }),
         ends: (0, 255),
         answer: [0, 0],
     }
@@ -170,7 +167,7 @@ pub fn stuck_at_hub() -> Frame {
     stuck_frame("2,048 links at one card, refused with 13", links.collect())
 }
 
-/// Three in four links at card 0, either end first, and every other link leads to no card.
+/// Three in four links at card 0, either end first, and one in two to no card, at random.
 fn stuck_in_tangle(rng: &mut Rng) -> Frame {
     let links = (0..2_048).map(|_| {
         let near = if rng.below(4) < 3 { 0 } else { rng.below(255) };
