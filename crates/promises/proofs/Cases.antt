@@ -1,6 +1,6 @@
 -- Every row of the table of cases holds, by one computed test. Assumes nothing.
 use mathlib.Core.Path.{_≡_, refl}
-use mathlib.Core.Bool.{Bool, true, false, not, cond}
+use mathlib.Core.Bool.{Bool, true, not}
 use mathlib.Core.List.{List, [], _∷_, _++_, map, cons≢nil}
 use Prim.Native.String.{String}
 use Rattle.rack.specs.Lists.{all, filter}
@@ -11,20 +11,22 @@ use Rattle.rack.specs.Columns.{nearer-first, side, column, same-column, add-col
 use Rattle.rack.specs.Refusals.{or-else, lowest-fault, link-fault, links-refusal, reach-refusal, parity-refusal, embedding-refusal, rack-refusal, wiring-refusal}
 use Rattle.rack.specs.Buffers.{number-at, two-bytes}
 use Rattle.rack.specs.WiringFile.{wiring-at, sizes-fault, form-refusal, file-refusal, end-bytes, file-bytes}
+use Rattle.rack.specs.PlanFile.{plan-bit, plan-hamming, address-size}
 use Rattle.rack.proofs.Logic.{by-bool}
 use Rattle.rack.proofs.Lists.{In, all-in}
 use Rattle.planner.specs.PlanBytes.{address-bytes, plan-bytes}
-use Rattle.rack.specs.PlanFile.{plan-bit, plan-hamming, address-size}
 use Rattle.reader.specs.Plan.{layout-holds, content-holds, plan-refusal}
+use Rattle.reader.specs.Reading.{layout-refusal}
 use Rattle.forwarder.specs.Forwarding.{leads-nearer, step, walk-from, walk}
-use Rattle.forwarder.specs.Calls.{walk-hops}
+use Rattle.forwarder.specs.Calls.{step-refusal, walk-hops, takes, walk-refusal}
 use Rattle.text.specs.Decimals.{digits, decimal}
 use Rattle.listing_text.specs.Listing.{cards-word, links-word, columns-word, card-word, refused-word, at-link, at-card, space, dash, line-end}
 use Rattle.listing_text.specs.Listing.{number-line, address-text, card-line, size-lines, rack-lines, rack-text, names-link, place-text, refused-text, listing}
 use Rattle.promises.specs.Claims.{hex-digit, hex-bytes, hex, Claim, claim-holds, Case, case, rack, file-of, plan-of, case-holds, failing}
-use Rattle.promises.specs.Cases.{ring-of-four, ring-plan, paper-cases, size-cases, link-cases, rack-cases, plan-cases, cases}
+use Rattle.promises.specs.Cases.{ring-of-four, ring-plan, paper-cases, size-cases, link-cases, rack-cases, plan-cases, call-cases, cases}
 
--- A CLAIM THAT FAILS has no proof, and the checker's message shows it, behind the name of its row
+-- A CLAIM THAT FAILS has no proof, and the checker's message shows it, behind the name of its row. Both types are pairs: to check a
+-- pair the checker has to compute the list, and then says what it found in it.
 data Fails (name : String) (claim : Claim) : Type 0 where
 
 abbrev None : (failing : List (String × Claim)) → Type 0
@@ -33,15 +35,17 @@ None ((s, c) ∷ rest) = Fails s c × Unit {0}
 
 -- THE TEST
 none-fails : None (failing cases)
-unfolding cases paper-cases size-cases link-cases rack-cases plan-cases ring-of-four ring-plan rack file-of plan-of hex hex-bytes hex-digit
-    claim-holds failing number-bit joins linked neighbours touches
-    other-end has-path hops unreached connected nearer-first side column same-column add-column add-columns columns
-    column-count address hamming embeds or-else lowest-fault link-fault links-refusal reach-refusal parity-refusal
-    embedding-refusal rack-refusal wiring-refusal number-at wiring-at sizes-fault form-refusal file-refusal two-bytes
-    end-bytes file-bytes bits-value address-size address-bytes plan-bytes layout-holds content-holds plan-refusal plan-bit
-    plan-hamming leads-nearer step walk-from walk walk-hops digits decimal cards-word links-word columns-word card-word refused-word
-    at-link at-card space dash line-end number-line address-text card-line size-lines rack-lines rack-text names-link
-    place-text refused-text listing
+unfolding cases paper-cases size-cases link-cases rack-cases plan-cases call-cases ring-of-four ring-plan rack file-of plan-of hex
+    hex-bytes hex-digit claim-holds failing
+    number-bit bits-value joins linked neighbours touches other-end has-path hops unreached connected
+    nearer-first side column same-column add-column add-columns columns column-count address hamming embeds
+    or-else lowest-fault link-fault links-refusal reach-refusal parity-refusal embedding-refusal rack-refusal wiring-refusal
+    number-at two-bytes wiring-at sizes-fault form-refusal file-refusal end-bytes file-bytes address-size address-bytes
+    plan-bytes
+    layout-holds content-holds plan-refusal layout-refusal plan-bit plan-hamming leads-nearer step walk-from walk
+    walk-hops step-refusal takes walk-refusal digits decimal
+    cards-word links-word columns-word card-word refused-word at-link at-card space dash line-end number-line address-text
+    card-line size-lines rack-lines rack-text names-link place-text refused-text listing
 none-fails = (tt, tt)
 
 -- EACH ROW

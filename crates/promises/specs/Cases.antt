@@ -5,7 +5,7 @@ use lib.ListN.{take, set, replicate}
 use Rattle.rack.specs.Wiring.{Link, link, wiring}
 use Rattle.planner.specs.PlanBytes.{plan-bytes}
 use Rattle.promises.specs.Claims.{hex, Case, rack, file-of, plan-of}
-use Rattle.promises.specs.Claims.{file-is, refused, addresses, lists, plan-size, plan-is, read-as, walks, stuck}
+use Rattle.promises.specs.Claims.{file-is, refused, addresses, lists, plan-size, plan-is, read-as, walks, stuck, walk-answers}
 
 unfoldable pub ring-of-four : List Link
 ring-of-four = link 0 1 ∷ link 1 2 ∷ link 2 3 ∷ link 3 0 ∷ []
@@ -100,5 +100,16 @@ plan-cases =
     ∷ plan-of "a walk from a card to itself" ring-plan (walks 1 1 0 (1 ∷ []) ∷ [])
     ∷ []
 
+-- 12, 14 and 15 of a walk, the first that applies; a stuck walk raises no count
+unfoldable pub call-cases : List Case
+call-cases =
+    plan-of "no layout and no card 4: 12 before 14" (take 25 ring-plan) (walk-answers 4 4 0 0 12 ∷ [])
+    ∷ plan-of "no card 4, and full counts: 14 before 15" ring-plan
+    (walk-answers 4 0 4294967295 4294967295 14 ∷ walk-answers 0 4 4294967295 4294967295 14 ∷ [])
+    ∷ plan-of "the last frame that is counted" ring-plan (walk-answers 0 2 4294967294 0 0 ∷ walk-answers 0 2 4294967295 0 15 ∷ [])
+    ∷ plan-of "the last hops that are counted" ring-plan (walk-answers 0 2 0 4294967293 0 ∷ walk-answers 0 2 0 4294967294 15 ∷ [])
+    ∷ plan-of "stuck, and full counts" (set ring-plan 24 0) (walk-answers 0 2 4294967295 4294967295 0 ∷ [])
+    ∷ []
+
 unfoldable pub cases : List Case
-cases = paper-cases ++ size-cases ++ link-cases ++ rack-cases ++ plan-cases
+cases = paper-cases ++ size-cases ++ link-cases ++ rack-cases ++ plan-cases ++ call-cases
