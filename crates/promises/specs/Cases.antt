@@ -14,6 +14,7 @@ ring-of-four = link 0 1 ∷ link 1 2 ∷ link 2 3 ∷ link 3 0 ∷ []
 unfoldable pub ring-plan : List ℕ
 ring-plan = plan-bytes (wiring 4 ring-of-four)
 
+-- P1 to P10, in their order
 unfoldable pub paper-cases : List Case
 paper-cases =
     rack "P1: one card" 1 []
