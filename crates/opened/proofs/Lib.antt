@@ -1,3 +1,4 @@
 pub mod Carrying
 pub mod Held
 pub mod Promises
+pub mod Methods
