@@ -9,8 +9,7 @@ use lib.Dec.{eqb}
 use Rattle.reader.specs.Promises.{Measured}
 use Rattle.reader.specs.Reading.{Layout-says, Read-says, Slice-is}
 use Rattle.reader.specs.declared.layout.Sizes.{Sizes}
-use Rattle.reader.proofs.Reading.{says-laid-out, says-no-layout}
-use Rattle.reader.proofs.ReadAnswer.{layout-passed}
+use Rattle.reader.proofs.Reading.{says-layout, says-laid-out, says-no-layout}
 use Rattle.opened.specs.Opening.{carries, carried-bytes, Opening-says}
 use Rattle.opened.specs.declared.Opened.{Opened}
 
@@ -23,15 +22,15 @@ module _ (ps : List ℕ) (n m k : ℕ) where
     pub carries-as-compared : r .number ≡ 0 → carries ps n m k ≡ (eqb n (r .cards) && eqb m (r .links) && eqb k (r .columns))
     unfolding carries
     carries-as-compared h =
-        let z = says-laid-out ps r s h in rw (layout-passed ps r s h, z .cards, z .links, z .columns) refl
+        let z = says-laid-out ps r s h in rw (says-layout ps r s h, z .cards, z .links, z .columns) refl
 
-  pub carried-whole : carries ps n m k ≡ true → carried-bytes ps n m k ≡ ps
+  pub carried-bytes-whole : carries ps n m k ≡ true → carried-bytes ps n m k ≡ ps
   unfolding carried-bytes
-  carried-whole t = rw t refl
+  carried-bytes-whole t = rw t refl
 
-  pub carried-none : carries ps n m k ≡ false → carried-bytes ps n m k ≡ []
+  pub carried-bytes-none : carries ps n m k ≡ false → carried-bytes ps n m k ≡ []
   unfolding carried-bytes
-  carried-none t = rw t refl
+  carried-bytes-none t = rw t refl
 
 -- no bytes are handed out from the first byte on
 pub none-from-start : (at : ℕ × ℕ) → (at .0, 0 + at .1) ≡ at

@@ -51,8 +51,8 @@ Takes-apart 𝓤 H run call d others R =
     → ent 𝓤 (call (bytes-value d ∷ vint w32 (d .cards) ∷ vint w32 (d .links) ∷ vint w32 (d .columns) ∷ others) Q) (run (T′.lowered d ∷ others) K)
 
 -- a parameter that is a number
-abbrev pub number : {n : ℕ} → Slot n
-number = plain (λ _. u32)
+abbrev pub number-slot : {n : ℕ} → Slot n
+number-slot = plain (λ _. u32)
 
 -- the signatures of a method and of the function that it calls, by their other parameters and their result
 module _ (m : ℕ) (ss : List (Slot (suc m))) (ks : Kepts ss) (res : Slot (suc m)) where
@@ -70,18 +70,18 @@ module _ (m : ℕ) (ss : List (Slot (suc m))) (ks : Kepts ss) (res : Slot (suc m
             record {
               lifetimes = suc m;
               outlives = [];
-              params = SliceRefOf (0 ∷ []) tt (plain (λ _. u8)) (λ _. tt) ∷ number ∷ number ∷ number ∷ ss;
+              params = SliceRefOf (0 ∷ []) tt (plain (λ _. u8)) (λ _. tt) ∷ number-slot ∷ number-slot ∷ number-slot ∷ ss;
               result = res;
             };
         kept = (yes, (yes, (yes, (yes, ks))));
       }
 
   -- what the function is passed
-  abbrev pub handed : (κs : Lfts (suc m)) → Args (Method .signature) κs → Args (Called .signature) κs
-  handed κs a = let d = a .0 in (d .bytes, (d .cards, (d .links, (d .columns, a .1))))
+  abbrev pub called-args : (κs : Lfts (suc m)) → Args (Method .signature) κs → Args (Called .signature) κs
+  called-args κs a = let d = a .0 in (d .bytes, (d .cards, (d .links, (d .columns, a .1))))
 
-  abbrev pub values : (κs : Lfts (suc m)) → Opened → Valss (typesAt ss κs) → Vals (Called .signature) κs
-  values κs d at = (bytes-value d ∷ [], (vint w32 (d .cards) ∷ [], (vint w32 (d .links) ∷ [], (vint w32 (d .columns) ∷ [], at))))
+  abbrev pub called-values : (κs : Lfts (suc m)) → Opened → Valss (typesAt ss κs) → Vals (Called .signature) κs
+  called-values κs d at = (bytes-value d ∷ [], (vint w32 (d .cards) ∷ [], (vint w32 (d .links) ∷ [], (vint w32 (d .columns) ∷ [], at))))
 
   module _ {M : Type 1} (𝓤 : URA M) (H : Heap 𝓤) (A : Atoms 𝓤) (W : Given 𝓤 H A) (method : Clauses 𝓤 Method) (called : Clauses 𝓤 Called) where
     -- the contracts as triples
@@ -93,12 +93,12 @@ module _ (m : ℕ) (ss : List (Slot (suc m))) (ks : Kepts ss) (res : Slot (suc m
 
     -- the function asks nothing, and what it ensures is what the method ensures
     pub record Agrees : Type 2 where
-      pub ghost : (κs : Lfts (suc m)) (a : Args (Method .signature) κs) → method κs a .ghost → called κs (handed κs a) .ghost
+      pub ghost : (κs : Lfts (suc m)) (a : Args (Method .signature) κs) → method κs a .ghost → called κs (called-args κs a) .ghost
       pub asks : (κs : Lfts (suc m)) (a : Args (Method .signature) κs) (g : method κs a .ghost)
-          → ent 𝓤 (emp 𝓤) (called κs (handed κs a) .requires (ghost κs a g))
+          → ent 𝓤 (emp 𝓤) (called κs (called-args κs a) .requires (ghost κs a g))
       pub claims : (κs : Lfts (suc m)) (a : Args (Method .signature) κs) (g : method κs a .ghost) (r : Res (Method .signature) κs)
           (ws : Fins κs ss ks (a .1))
-          → ent 𝓤 (called κs (handed κs a) .ensures (ghost κs a g) r (atExit Called κs (handed κs a) (tt, (tt, (tt, (tt, ws))))))
+          → ent 𝓤 (called κs (called-args κs a) .ensures (ghost κs a g) r (atExit Called κs (called-args κs a) (tt, (tt, (tt, (tt, ws))))))
           (method κs a .ensures g r (atExit Method κs a (tt, ws)))
 
     -- of one call: lifetimes, parameters, and the machine values of the other parameters
@@ -111,7 +111,7 @@ module _ (m : ℕ) (ss : List (Slot (suc m))) (ks : Kepts ss) (res : Slot (suc m
       of-method = ((κs, qs, tt, (d, others), (T′.lowered d ∷ [], at)), g)
 
       abbrev of-called : Called-triple .Ghost
-      of-called = ((κs, qs, tt, handed κs (d, others), values κs d at), agrees .ghost κs (d, others) g)
+      of-called = ((κs, qs, tt, called-args κs (d, others), called-values κs d at), agrees .ghost κs (d, others) g)
 
       abbrev Alive : SProp 𝓤
       Alive = alive 𝓤 H A (Method .signature) κs qs
@@ -123,10 +123,10 @@ module _ (m : ℕ) (ss : List (Slot (suc m))) (ks : Kepts ss) (res : Slot (suc m
       abbrev Method-says : R .Denot → Lasts Method κs (d, others) → SProp 𝓤
       Method-says r ws = sep 𝓤 (sem 𝓤 H A (lasts Method κs (d, others) ws)) (method κs (d, others) .ensures g r (atExit Method κs (d, others) ws))
 
-      abbrev Called-says : R .Denot → Lasts Called κs (handed κs (d, others)) → SProp 𝓤
+      abbrev Called-says : R .Denot → Lasts Called κs (called-args κs (d, others)) → SProp 𝓤
       Called-says r ws =
-          sep 𝓤 (sem 𝓤 H A (lasts Called κs (handed κs (d, others)) ws))
-          (called κs (handed κs (d, others)) .ensures (agrees .ghost κs (d, others) g) r (atExit Called κs (handed κs (d, others)) ws))
+          sep 𝓤 (sem 𝓤 H A (lasts Called κs (called-args κs (d, others)) ws))
+          (called κs (called-args κs (d, others)) .ensures (agrees .ghost κs (d, others) g) r (atExit Called κs (called-args κs (d, others)) ws))
 
       -- what the method is entered with gives what the function asks
       asked : d .cards < 2 ^ 32 → d .links < 2 ^ 32 → d .columns < 2 ^ 32
@@ -137,10 +137,10 @@ module _ (m : ℕ) (ss : List (Slot (suc m))) (ks : Kepts ss) (res : Slot (suc m
           move ! (1 ∷ 0 ∷ []) $ join ! $ frame ! $ by ! (agrees .asks κs (d, others) g)
 
       -- of the last values nothing is said of the bytes and the sizes
-      exit-said : (r : R .Denot) (ws : Lasts Called κs (handed κs (d, others))) → ent 𝓤 (Called-says r ws) (Method-says r (tt, ws .1 .1 .1 .1))
+      exit-said : (r : R .Denot) (ws : Lasts Called κs (called-args κs (d, others))) → ent 𝓤 (Called-says r ws) (Method-says r (tt, ws .1 .1 .1 .1))
       exit-said r ws =
-          qed W (‵ (lasts Called κs (handed κs (d, others)) ws)
-          ∷ raw (called κs (handed κs (d, others)) .ensures (agrees .ghost κs (d, others) g) r (atExit Called κs (handed κs (d, others)) ws)) ∷ []) ∵
+          qed W (‵ (lasts Called κs (called-args κs (d, others)) ws)
+          ∷ raw (called κs (called-args κs (d, others)) .ensures (agrees .ghost κs (d, others) g) r (atExit Called κs (called-args κs (d, others)) ws)) ∷ []) ∵
           fsplit ! $ drop ! $ fsplit ! $ drop ! $ fsplit ! $ drop ! $ frame ! $ by ! (agrees .claims κs (d, others) g r (ws .1 .1 .1 .1))
 
       -- what the function answers is what the method is to answer, with a value of the result's type
@@ -154,7 +154,7 @@ module _ (m : ℕ) (ss : List (Slot (suc m))) (ks : Kepts ss) (res : Slot (suc m
 
         answers : ent 𝓤 (Called-triple .post of-called u) (H .⇛ (sep 𝓤 (Method-triple .post of-method u) (fact 𝓤 (Typed (R .mir) (u ∷ [])))))
         answers =
-            qed W (later (some (λ (r : R .Denot). (raw Alive ⊛ ‵ (R .own r (u ∷ []))) ⊛ some (λ (ws : Lasts Called κs (handed κs (d, others))).
+            qed W (later (some (λ (r : R .Denot). (raw Alive ⊛ ‵ (R .own r (u ∷ []))) ⊛ some (λ (ws : Lasts Called κs (called-args κs (d, others))).
             raw (Called-says r ws)))) ∷ []) ∵ updating ! $ await ! tt $ at-once ! $ pick ! (λ r. split ! $ move ! (1 ∷ []) $ pick ! (λ ws.
             use1 W (raw (Method-says r (tt, ws .1 .1 .1 .1))) (exit-said r ws) $ move ! (1 ∷ []) $ split ! $ move ! (1 ∷ []) $
             peeks ! R (Is R) (shows 𝓤 H A R) r (u ∷ []) (λ is. says ! (lawful .typed r (u ∷ []) is) $ move ! (1 ∷ 0 ∷ []) $ join ! $ by ! (whole r (tt, ws .1 .1 .1 .1)))))

@@ -19,7 +19,7 @@ use Rattle.opened.specs.Opening.{carries, opened-bytes, Opening-says, Wa
 use Rattle.opened.specs.Promises.{Sizes-carried, Carries-exactly, Opening-whole, Twelve-in-every-call, Refused-opening, Other-sizes}
 use Rattle.opened.specs.Promises.{Refused-opening-empty, Opened-frame-arrives, Opened-address-own, Opened-address-refused}
 use Rattle.opened.specs.declared.Opened.{Opened}
-use Rattle.opened.proofs.Carrying.{carried-whole, carried-none}
+use Rattle.opened.proofs.Carrying.{carried-bytes-whole, carried-bytes-none}
 
 -- NO BYTES are 12 in every call
 no-bytes-twelve : Twelve-in-every-call []
@@ -62,10 +62,10 @@ module _ (p : Opened) where
       )
 
   carried-twelve : carried ≡ false → Twelve-in-every-call (opened-bytes p)
-  carried-twelve t = subst Twelve-in-every-call (sym (carried-none ps (p .cards) (p .links) (p .columns) t)) no-bytes-twelve
+  carried-twelve t = subst Twelve-in-every-call (sym (carried-bytes-none ps (p .cards) (p .links) (p .columns) t)) no-bytes-twelve
 
   read-whole : plan-refusal ps ≡ 0 → Sizes-carried p → opened-bytes p ≡ ps
-  read-whole h z = carried-whole ps (p .cards) (p .links) (p .columns) (sizes-carry (read-measured ps h .layout) z)
+  read-whole h z = carried-bytes-whole ps (p .cards) (p .links) (p .columns) (sizes-carry (read-measured ps h .layout) z)
 
 pub carries-exactly : Carries-exactly
 unfolding Carries-exactly
@@ -111,11 +111,12 @@ module _ (qs : List ℕ) (at : ℕ × ℕ) (p : Opened) (s : Opening-says qs at 
 
 pub opening-whole : Opening-whole
 unfolding Opening-whole
-opening-whole qs at p s e = (record { place = s .bytes .place; bytes = opened-holds-bytes qs at p s e }, opened-whole qs at p s e)
+opening-whole qs at p s e =
+    (record { place = s .bytes .place; bytes = opened-holds-bytes qs at p s e }, opened-sizes qs at p s e, opened-whole qs at p s e)
 
 pub refused-opening-empty : Refused-opening-empty
 unfolding Refused-opening-empty
-refused-opening-empty qs at p s n = let z = refused-sizes qs at p s n in (refused-none qs at p s n, z .0, z .1, z .2)
+refused-opening-empty qs at p s n = let z = refused-sizes qs at p s n in (s .number, refused-none qs at p s n, z .0, z .1, z .2)
 
 pub refused-opening : Refused-opening
 unfolding Refused-opening
@@ -139,7 +140,7 @@ opened-address-refused p c = (refused-address-empty (opened-bytes p) c, (outside
     outside h =
         by-bool (carried p)
         (λ (t : carried p ≡ true).
-        let whole = carried-whole (ps p) (p .cards) (p .links) (p .columns) t in
+        let whole = carried-bytes-whole (ps p) (p .cards) (p .links) (p .columns) t in
         let z = no-such-card (ps p) c .0 (ap (λ (xs : List ℕ). address-refusal xs c) (sym whole) ∙ h) in
         let sizes = carry-sizes p t .1 in
         (z .0, sizes, omega (arith, z .1, sizes .cards)))

@@ -26,15 +26,17 @@ unfoldable pub Carries-exactly : Type 0
 Carries-exactly =
     (p : Opened) → (carries (now (p .bytes)) (p .cards) (p .links) (p .columns) ≡ true) ↔ ((layout-holds (now (p .bytes)) ≡ true) × Sizes-carried p)
 
--- an opening that was not refused carries the plan's own bytes, and each call sees them
+-- "An opened plan carries the plan bytes themselves together with their three sizes": one that was not refused; and each call sees them
 unfoldable pub Opening-whole : Type 0
-Opening-whole = (ps : List ℕ) (at : ℕ × ℕ) (p : Opened) → Opening-says ps at p → p .number ≡ 0 → Slice-is at ps (p .bytes) × (opened-bytes p ≡ ps)
+Opening-whole =
+    (ps : List ℕ) (at : ℕ × ℕ) (p : Opened) → Opening-says ps at p → p .number ≡ 0 →
+    Slice-is at ps (p .bytes) × Sizes-carried p × (opened-bytes p ≡ ps)
 
 -- "A refused opening has its number, no bytes and sizes 0"
 unfoldable pub Refused-opening-empty : Type 0
 Refused-opening-empty =
     (ps : List ℕ) (at : ℕ × ℕ) (p : Opened) → Opening-says ps at p → p .number ≢ 0 →
-    (now (p .bytes) ≡ []) × (p .cards ≡ 0) × (p .links ≡ 0) × (p .columns ≡ 0)
+    (p .number ≡ plan-refusal ps) × (now (p .bytes) ≡ []) × (p .cards ≡ 0) × (p .links ≡ 0) × (p .columns ≡ 0)
 
 -- 12 in every call on these bytes, and no part of them for an address
 pub record Twelve-in-every-call (ps : List ℕ) : Type 0 where

@@ -8,6 +8,7 @@ use native.Mathlib.Omega.{arith}
 use base.Fml.{GName}
 use lib.ListN.{length, take, drop}
 use borrow.Author.Tests.{eq-eqb, ne-eqb, le-leb, lt-leb}
+use Rattle.rack.proofs.Logic.{by-eq, by-lt}
 use Rattle.rack.specs.PlanFile.{plan-cards, plan-links, plan-columns, address-size, addresses-start, address-start}
 use Rattle.reader.specs.Plan.{plan-refusal}
 use Rattle.reader.specs.Reading.{Read-says, address-refusal, address-part, Laid-out, address-offset, Address-says}
@@ -29,12 +30,19 @@ module _ (ps : List ℕ) (c : ℕ) where
   unfolding address-refusal
   card-clear e h = rw (eq-eqb (plan-refusal ps) 0 e, lt-leb (plan-cards ps) c h) refl
 
+  pub clear-card : address-refusal ps c ≡ 0 → (plan-refusal ps ≡ 0) × (c < plan-cards ps)
+  clear-card e =
+      by-eq (plan-refusal ps) 0
+      (λ (h : plan-refusal ps ≡ 0).
+      (h, by-lt c (plan-cards ps) (λ (l : c < plan-cards ps). l) (λ (l : plan-cards ps ≤ c). absurd (omega (arith, e, card-refused h l)))))
+      (λ (n : plan-refusal ps ≢ 0). absurd (n (sym (plan-refused n) ∙ e)))
+
   -- THE PART beside it
   pub refused-part : address-refusal ps c ≢ 0 → (address-offset ps c ≡ 0) × (address-part ps c ≡ [])
   unfolding address-offset address-part
   refused-part n = rw (ne-eqb (address-refusal ps c) 0 n) (refl, refl)
 
-  clear-part : address-refusal ps c ≡ 0
+  pub clear-part : address-refusal ps c ≡ 0
       → (address-offset ps c ≡ address-start ps c) × (address-part ps c ≡ take (address-size (plan-columns ps)) (drop (address-start ps c) ps))
   unfolding address-offset address-part
   clear-part e = rw (eq-eqb (address-refusal ps c) 0 e) (refl, refl)

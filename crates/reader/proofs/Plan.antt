@@ -28,16 +28,16 @@ abbrev pub Layout : List ℕ → Type 0
 Layout ps = Laid-out ps (plan-cards ps) (plan-links ps) (plan-columns ps)
 
 module _ (ps : List ℕ) where
-  abbrev plan-length : ℕ
-  plan-length = addresses-start (plan-links ps) + plan-cards ps * address-size (plan-columns ps)
+  abbrev layout-length : ℕ
+  layout-length = addresses-start (plan-links ps) + plan-cards ps * address-size (plan-columns ps)
 
-  pub layout-of : 1 ≤ plan-cards ps → plan-cards ps ≤ most-cards → plan-links ps ≤ most-links → plan-columns ps ≤ most-columns → length ps ≡ plan-length
+  pub layout-of : 1 ≤ plan-cards ps → plan-cards ps ≤ most-cards → plan-links ps ≤ most-links → plan-columns ps ≤ most-columns → length ps ≡ layout-length
       → Layout ps
   layout-of some few few-links few-columns long =
       record { cards = refl; links = refl; columns = refl; some = some; few = few; few-links = few-links; few-columns = few-columns; long = long }
 
   abbrev long-test : Bool
-  long-test = eqb (length ps) plan-length
+  long-test = eqb (length ps) layout-length
 
   pub layout-facts : layout-holds ps ≡ true → Layout ps
   unfolding layout-holds
@@ -56,7 +56,7 @@ module _ (ps : List ℕ) where
       (leb-true (plan-cards ps) most-cards (and-right t₂ (leb (plan-cards ps) most-cards) h₃))
       (leb-true (plan-links ps) most-links (and-right t₃ (leb (plan-links ps) most-links) h₄))
       (leb-true (plan-columns ps) most-columns (and-right t₄ (leb (plan-columns ps) most-columns) h₅))
-      (eqb-true (length ps) plan-length (and-right t₅ long-test h))
+      (eqb-true (length ps) layout-length (and-right t₅ long-test h))
 
   pub layout-head : Layout ps → 6 ≤ length ps
   layout-head z = omega (arith, z .long)
@@ -70,7 +70,7 @@ module _ (ps : List ℕ) where
         le-leb (plan-cards ps) most-cards (z .few),
         le-leb (plan-links ps) most-links (z .few-links),
         le-leb (plan-columns ps) most-columns (z .few-columns),
-        eq-eqb (length ps) plan-length (z .long),
+        eq-eqb (length ps) layout-length (z .long),
       ) refl
 
   -- whoever has read the sizes has the same facts of what was read
@@ -119,14 +119,14 @@ module _ (w : Wiring) (a : Accepted w) (high : w .cards ≤ most-cards) (few-lin
         second = λ i h. let s = accepted-inside w a i h in omega arith;
       }
 
-  columns-fit : column-count w < 65536
-  columns-fit = omega (arith, a .few)
+  pub accepted-columns-fit : column-count w < 65536
+  accepted-columns-fit = omega (arith, a .few)
 
   layout-written : Layout (plan-bytes w)
   layout-written =
       let n = written-cards w (omega arith) in
       let m = written-links w (omega arith) in
-      let k = written-columns w columns-fit in
+      let k = written-columns w accepted-columns-fit in
       layout-of (plan-bytes w) (omega (arith, a .rack .some)) (omega arith) (omega arith) (omega (arith, a .few)) (rw (n, m, k) (length-plan w))
 
   pub plan-read : wiring-refusal w .number ≡ 0 → (plan-refusal (plan-bytes w) ≡ 0) × (plan-wiring (plan-bytes w) ≡ w)

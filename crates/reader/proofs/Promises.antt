@@ -1,19 +1,21 @@
 -- The promises of specs/Promises.antt, proved. Assumes nothing.
 use mathlib.Core.Path.{_≡_, refl, sym, ap, _∙_, subst}
-use mathlib.Core.Bool.{true, false}
+use mathlib.Core.Bool.{Bool, true, false}
 use mathlib.Core.Logic.{_≢_}
-use mathlib.Core.List.{List}
-use Prim.Native.Nat.{ℕ, _-_, _≤_, _<_}
+use mathlib.Core.List.{List, []}
+use Prim.Native.Nat.{ℕ, _+_, _*_, _-_, _/_, _%_, _≤_, _<_}
+use native.Mathlib.Nat.{mul-le-mul}
 use native.Mathlib.Omega.{arith}
 use lib.Dec.{eqb}
-use lib.ListN.{length, take, replicate}
-use lib.Seq.{take-at}
+use lib.ListN.{length, getD, take, drop, replicate, List·getD-eq-default}
+use lib.Seq.{take-at, getD-take, getD-drop}
 use borrow.Author.Tests.{eq-eqb}
 use Rattle.rack.specs.Wiring.{Wiring, link-count}
 use Rattle.rack.specs.Hops.{hops}
 use Rattle.rack.specs.Limits.{most-cards, most-links, lent-plan}
 use Rattle.rack.specs.WiringFile.{file-wiring, file-refusal, file-bytes}
-use Rattle.rack.specs.Columns.{column-count, address}
+use Rattle.rack.specs.Bits.{number-bit}
+use Rattle.rack.specs.Columns.{columns, column-count, address}
 use Rattle.rack.proofs.Logic.{by-bool, by-eq, by-lt}
 use Rattle.rack.proofs.Hamming.{hamming-ext}
 use Rattle.rack.proofs.Hops.{connected-all}
@@ -22,15 +24,37 @@ use Rattle.rack.proofs.WiringFile.{Fits, wiring-at-cards, wiring-at-count, file
 use Rattle.planner.specs.PlanBytes.{plan-bytes}
 use Rattle.planner.specs.Planning.{left-in, writing-refusal, Write-says}
 use Rattle.planner.specs.declared.Answer.{Answer}
-use Rattle.planner.proofs.PlanBytes.{written-columns, written-bit}
-use Rattle.rack.specs.PlanFile.{plan-cards, plan-columns, plan-wiring, plan-bit, plan-hamming, address-size}
+use Rattle.planner.proofs.PlanBytes.{written-links, written-columns, written-byte, written-bit}
+use Rattle.rack.specs.PlanFile.{plan-cards, plan-columns, plan-wiring, plan-bit, plan-hamming, address-size, address-start}
+use Rattle.rack.proofs.Bits.{bits-value-number}
+use Rattle.rack.proofs.PlanFile.{address-size-is}
 use Rattle.reader.specs.Plan.{plan-refusal}
 use Rattle.reader.specs.Promises.{Read-exactly, Calls-agree, Layout-in-range, Address-fits, Measured, Reader-promise, Refused-address-empty}
-use Rattle.reader.specs.Promises.{No-such-card}
-use Rattle.reader.specs.Reading.{Read-says, address-refusal}
+use Rattle.reader.specs.Promises.{No-such-card, Largest-plan, Address-whole}
+use Rattle.reader.specs.Reading.{Read-says, bit-from, address-refusal, address-part}
 use Rattle.reader.specs.declared.layout.Sizes.{Sizes}
-use Rattle.reader.proofs.Plan.{Layout, layout-of, layout-facts, facts-layout, plan-clear, plan-read, accepted-fits, layout-head, plan-refusal-most}
-use Rattle.reader.proofs.AddressPart.{plan-refused, card-refused, card-clear, refused-part}
+use Rattle.reader.proofs.Plan.{Layout, layout-of, layout-facts, facts-layout, plan-clear, plan-read, accepted-fits, accepted-columns-fit, layout-head, plan-refusal-most}
+use Rattle.reader.proofs.AddressPart.{plan-refused, card-refused, card-clear, clear-card, refused-part, clear-part}
+use Rattle.reader.proofs.Addresses.{address-counted}
+use Rattle.reader.proofs.Parts.{length-part}
+
+-- a bit of any byte of an address in the planner's plan
+module _ (w : Wiring) (links-fit : link-count w < 65536) (columns-fit : column-count w < 65536) where
+  written-byte-bit : (c j : ℕ) → c < w .cards → j / 8 < address-size (column-count w) → plan-bit (plan-bytes w) c j ≡ address w c j
+  unfolding plan-bit
+  written-byte-bit c j hc hj =
+      let e : 8 * (j / 8) + j % 8 ≡ j = omega arith in
+      rw (
+        written-links w links-fit,
+        written-columns w columns-fit,
+        written-byte w c (j / 8) hc hj,
+        bits-value-number 8 (λ i. address w c (8 * (j / 8) + i)) (j % 8) (omega arith),
+        e,
+      ) refl
+
+past-columns : (w : Wiring) (c j : ℕ) → column-count w ≤ j → address w c j ≡ false
+unfolding address column-count
+past-columns w c j h = ap (λ (column : List Bool). getD column c false) (List·getD-eq-default (columns w) [] h)
 
 -- A PLAN THAT WAS READ has an accepted wiring inside, and is its plan
 module _ (ps : List ℕ) (h : plan-refusal ps ≡ 0) where
@@ -62,7 +86,7 @@ module _ (ps : List ℕ) (h : plan-refusal ps ≡ 0) where
   links-fit = omega (arith, few-links)
 
   columns-fit : column-count inner < 65536
-  columns-fit = omega (arith, read-accepted .few, few-cards)
+  columns-fit = accepted-columns-fit inner read-accepted few-cards few-links
 
   pub read-columns : plan-columns ps ≡ column-count inner
   read-columns = subst (λ (qs : List ℕ). plan-columns qs ≡ column-count inner) (plan-clear ps h .2) (written-columns inner columns-fit)
@@ -70,6 +94,11 @@ module _ (ps : List ℕ) (h : plan-refusal ps ≡ 0) where
   pub read-bit : (c j : ℕ) → c < inner .cards → j < column-count inner → plan-bit ps c j ≡ address inner c j
   read-bit c j hc hj =
       subst (λ (qs : List ℕ). plan-bit qs c j ≡ address inner c j) (plan-clear ps h .2) (written-bit inner links-fit columns-fit c j hc hj)
+
+  -- a bit of any byte of an address, also past the last column
+  read-byte-bit : (c j : ℕ) → c < inner .cards → j / 8 < address-size (column-count inner) → plan-bit ps c j ≡ address inner c j
+  read-byte-bit c j hc hj =
+      subst (λ (qs : List ℕ). plan-bit qs c j ≡ address inner c j) (plan-clear ps h .2) (written-byte-bit inner links-fit columns-fit c j hc hj)
 
   read-hamming : (a b : ℕ) → a < inner .cards → b < inner .cards → plan-hamming ps a b ≡ hops inner a b
   unfolding plan-hamming
@@ -102,6 +131,48 @@ layout-in-range ps = (
 pub address-fits : Address-fits
 unfolding Address-fits address-size
 address-fits k = (omega arith, omega arith)
+
+pub largest-plan : Largest-plan
+unfolding Largest-plan
+largest-plan ps h =
+    let z = layout-facts ps h in
+    let few : plan-cards ps * address-size (plan-columns ps) ≤ 256 * 32 =
+    mul-le-mul {n₂ = 256} {m₂ = 32} (z .few) (omega (arith, address-size-is (plan-columns ps), z .few-columns)) in
+    omega (arith, z .long, z .few-links)
+
+-- AN ADDRESS that is handed out ends inside the plan, and its bits are the plan's
+module _ (ps : List ℕ) (c : ℕ) (e : address-refusal ps c ≡ 0) where
+  abbrev size : ℕ
+  size = address-size (plan-columns ps)
+
+  abbrev start : ℕ
+  start = address-start ps c
+
+  was-read : plan-refusal ps ≡ 0
+  was-read = clear-card ps c e .0
+
+  handed-size : length (address-part ps c) ≡ size
+  handed-size =
+      let z = address-counted ps _ _ _ (layout-facts ps (plan-clear ps was-read .0)) c size start (clear-card ps c e .1) refl refl in
+      ap length (clear-part ps c e .1) ∙ length-part start size ps (z .1)
+
+  handed-bit : (j : ℕ) → j < 8 * size → bit-from (address-part ps c) 0 j ≡ plan-bit ps c j
+  unfolding bit-from plan-bit
+  handed-bit j l =
+      ap (λ (byte : ℕ). number-bit byte (j % 8))
+      (ap (λ (bs : List ℕ). getD bs (0 + j / 8) 0) (clear-part ps c e .1) ∙ getD-take size (drop start ps) (0 + j / 8) 0 (omega arith)
+      ∙ getD-drop start ps (0 + j / 8) 0 ∙ ap (λ (i : ℕ). getD ps i 0) (omega arith))
+
+pub address-whole : Address-whole
+unfolding Address-whole
+address-whole ps c e =
+    let h = was-read ps c e in
+    let k = read-columns ps h in
+    let n = wiring-at-cards 6 ps in (
+      handed-size ps c e,
+      (λ j l. handed-bit ps c e j l ∙ read-byte-bit ps h c j (omega (arith, clear-card ps c e .1)) (rw (← k) (omega arith))),
+      λ j l. past-columns (plan-wiring ps) c j (omega arith),
+    )
 
 pub refused-address-empty : Refused-address-empty
 unfolding Refused-address-empty

@@ -24,7 +24,7 @@ use Rattle.reader.specs.Reading.{Sizes-say, no-sizes, layout-refusal, La
 use Rattle.reader.specs.declared.layout.Sizes.{Sizes}
 use Rattle.reader.proofs.Plan.{layout-facts}
 use Rattle.reader.proofs.Promises.{read-measured}
-use Rattle.reader.proofs.Reading.{no-sizes-say}
+use Rattle.reader.proofs.Reading.{no-sizes-say, says-layout}
 use Rattle.reader.proofs.InnerFile.{inner-file, inner-wiring, inner-refusal}
 
 module _ (ps : List ℕ) (r : Sizes) (s : Layout-says ps r) where
@@ -36,13 +36,9 @@ module _ (ps : List ℕ) (r : Sizes) (s : Layout-says ps r) where
       (λ (t : layout-holds ps ≡ true). absurd (n (rw t at (s .number))))
       (λ (t : layout-holds ps ≡ false). let z : Sizes-say ps 12 r = rw t at s in rw t z)
 
-  pub layout-passed : r .number ≡ 0 → layout-holds ps ≡ true
-  unfolding layout-refusal
-  layout-passed e = by-bool (layout-holds ps) (λ t. t) (λ (t : layout-holds ps ≡ false). let n = rw t at (s .number) in absurd (omega arith))
-
   pub read-says-sizes : r .number ≡ 0 → content-holds ps ≡ true → Read-says ps r
   unfolding layout-refusal plan-refusal
-  read-says-sizes e h = let z : Sizes-say ps 0 r = rw (layout-passed e) at s in rw (layout-passed e, h) z
+  read-says-sizes e h = let l = says-layout ps r s e in let z : Sizes-say ps 0 r = rw l at s in rw (l, h) z
 
 -- 13
 pub read-says-content : (ps : List ℕ) (r : Sizes) → layout-holds ps ≡ true → content-holds ps ≡ false → r ≡ no-sizes 13 → Read-says ps r

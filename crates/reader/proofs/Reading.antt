@@ -30,14 +30,16 @@ module _ (ps : List ℕ) where
       rw (facts-layout ps (read-layout ps (r .cards) (r .links) (r .columns) z)) s
 
   -- WHAT A CALLER LEARNS from the answer
+  pub says-layout : (r : Sizes) → Layout-says ps r → r .number ≡ 0 → layout-holds ps ≡ true
+  unfolding layout-refusal
+  says-layout r s e = by-bool (layout-holds ps) (λ t. t) (λ (t : layout-holds ps ≡ false). let n = rw t at (s .number) in absurd (omega arith))
+
   pub says-laid-out : (r : Sizes) → Layout-says ps r → r .number ≡ 0 → Laid-out ps (r .cards) (r .links) (r .columns)
   unfolding layout-refusal
-  says-laid-out r s e = by-bool (layout-holds ps) passed (λ (t : layout-holds ps ≡ false). absurd (let n = rw t at (s .number) in omega arith))
-    where
-      passed : layout-holds ps ≡ true → Laid-out ps (r .cards) (r .links) (r .columns)
-      passed t =
-          let f : Sizes-say ps 0 r = rw t at s in
-          layout-read ps (r .cards) (r .links) (r .columns) (f .cards) (f .links) (f .columns) (layout-facts ps t)
+  says-laid-out r s e =
+      let t = says-layout r s e in
+      let f : Sizes-say ps 0 r = rw t at s in
+      layout-read ps (r .cards) (r .links) (r .columns) (f .cards) (f .links) (f .columns) (layout-facts ps t)
 
   pub says-no-layout : (r : Sizes) → Layout-says ps r → r .number ≢ 0 → layout-holds ps ≡ false
   unfolding layout-refusal

@@ -1,6 +1,6 @@
 -- What is promised of reading a plan. Each statement is proved in proofs/Promises.antt under its name.
 use mathlib.Core.Path.{_≡_}
-use mathlib.Core.Bool.{true}
+use mathlib.Core.Bool.{true, false}
 use mathlib.Core.List.{List, []}
 use mathlib.Core.Logic.{_↔_, _≢_}
 use Prim.Native.Nat.{ℕ, _+_, _*_, _≤_, _<_}
@@ -8,13 +8,14 @@ use lib.ListN.{length, take}
 use Rattle.rack.specs.Limits.{lent-plan}
 use Rattle.rack.specs.Wiring.{link-count, link-at}
 use Rattle.rack.specs.Hops.{hops}
+use Rattle.rack.specs.Columns.{address}
 use Rattle.rack.specs.WiringFile.{file-wiring, file-refusal, file-bytes}
 use Rattle.planner.specs.PlanBytes.{plan-bytes}
 use Rattle.planner.specs.Planning.{Write-says}
 use Rattle.planner.specs.declared.Answer.{Answer}
 use Rattle.rack.specs.PlanFile.{plan-cards, plan-links, plan-columns, plan-wiring, plan-hamming, address-size}
 use Rattle.reader.specs.Plan.{layout-holds, plan-refusal}
-use Rattle.reader.specs.Reading.{Read-says, address-refusal, address-part}
+use Rattle.reader.specs.Reading.{Read-says, bit-from, address-refusal, address-part}
 use Rattle.reader.specs.declared.layout.Sizes.{Sizes}
 
 -- "A plan file is read exactly if it is the one that the planner writes for the wiring inside it": that wiring is accepted;
@@ -45,6 +46,10 @@ Layout-in-range =
     ↔ ((6 ≤ length ps) × (1 ≤ plan-cards ps) × (plan-cards ps ≤ 256) × (plan-links ps ≤ 2048) × (plan-columns ps ≤ 255)
     × (length ps ≡ 6 + 4 * plan-links ps + plan-cards ps * address-size (plan-columns ps)))
 
+-- "The largest plan has 16,390 bytes"
+unfoldable pub Largest-plan : Type 0
+Largest-plan = (ps : List ℕ) → layout-holds ps ≡ true → length ps ≤ 16390
+
 -- "B", the bytes of an address: as few as hold k bits
 unfoldable pub Address-fits : Type 0
 Address-fits = (k : ℕ) → (k ≤ 8 * address-size k) × (8 * address-size k < k + 8)
@@ -64,6 +69,14 @@ Reader-promise = (ps : List ℕ) → plan-refusal ps ≡ 0 → Measured ps
 -- "With a refusal the part is empty and the number is told beside it"
 unfoldable pub Refused-address-empty : Type 0
 Refused-address-empty = (ps : List ℕ) (c : ℕ) → address-refusal ps c ≢ 0 → address-part ps c ≡ []
+
+-- "n addresses of B bytes each. Column j is bit j mod 8 of byte j / 8. Bits past column k−1 are zero": of what is handed out
+unfoldable pub Address-whole : Type 0
+Address-whole =
+    (ps : List ℕ) (c : ℕ) → address-refusal ps c ≡ 0 →
+    (length (address-part ps c) ≡ address-size (plan-columns ps))
+    × ((j : ℕ) → j < 8 * address-size (plan-columns ps) → bit-from (address-part ps c) 0 j ≡ address (plan-wiring ps) c j)
+    × ((j : ℕ) → plan-columns ps ≤ j → address (plan-wiring ps) c j ≡ false)
 
 -- 14: exactly of a plan that was read, and a card number that is n or more
 unfoldable pub No-such-card : Type 0

@@ -25,7 +25,7 @@ use denote.Triple.Call.{calls-from}
 use Rattle.opened.specs.declared.Opened.{Opened}
 use Rattle.opened.proofs.Opened.Laws as T′
 use Rattle.opened.proofs.Held.{bytes-value}
-use Rattle.opened.proofs.Methods.{number, Typed-plan, Takes-apart, method-meets}
+use Rattle.opened.proofs.Methods.{number-slot, Typed-plan, Takes-apart, method-meets}
 use Rattle.forwarder.proofs.step.Stepped as Y
 use Rattle.forwarder.proofs.step.Stepped.Laws as Y′
 use Rattle.opened.proofs.carried.step_carried as callee
@@ -74,7 +74,7 @@ module _ {M : Type 1} (𝓤 : URA M) (H : Heap 𝓤) (A : Atoms 𝓤) (W : Given
 pub step-spec : {M : Type 1} → stated.statement M
 unfolding code.routine tablesOf
 step-spec 𝓤 H 𝓜 𝓖 𝓡 =
-    method-meets 0 (number ∷ number ∷ []) (yes, (yes, tt)) (this.signature .result) 𝓤 H 𝓜 𝓖 𝓡
+    method-meets 0 (number-slot ∷ number-slot ∷ []) (yes, (yes, tt)) (this.signature .result) 𝓤 H 𝓜 𝓖 𝓡
     (this.clauses 𝓤 H (𝓖 .A) (𝓜 .mem) (𝓡 .run)) (callee.clauses 𝓤 H (𝓖 .A) (𝓜 .mem) (𝓡 .run))
     (record { ghost = λ κs a g. tt; asks = λ κs a g. id⊢ 𝓤 _; claims = λ κs a g r ws. id⊢ 𝓤 _ })
     code.env #opened·Opened·step code.function (code.unfolded 𝓤 H 𝓜 𝓡)

@@ -1,6 +1,6 @@
 -- As the test says. Assumes nothing.
 use mathlib.Core.Path.{refl, sym, _∙_}
-use Rattle.opened.proofs.Carrying.{carried-whole, carried-none, none-from-start}
+use Rattle.opened.proofs.Carrying.{carried-bytes-whole, carried-bytes-none, none-from-start}
 use borrow.Author.Needs.{needs}
 use Rattle.opened.proofs.carried.carried_bytes.Statement.{statement}
 use Rattle.opened.proofs.carried.carried_bytes.Tie as tie
@@ -9,7 +9,7 @@ carries-requires : tie.Need-carries-requires
 carries-requires c κs = search needs
 
 returns : tie.Need-returns
-returns c = record { place = refl; bytes = sym (carried-whole _ _ _ _ (sym (c .before .carries .ensures) ∙ c .if1 .taken)) }
+returns c = record { place = refl; bytes = sym (carried-bytes-whole _ _ _ _ (sym (c .before .carries .ensures) ∙ c .if1 .taken)) }
 
 sub-result : tie.Need-sub-result
 sub-result c = search needs
@@ -21,7 +21,7 @@ part-result-end : tie.Need-part-result-end
 part-result-end c = search needs
 
 returns-2 : tie.Need-returns-2
-returns-2 c = record { place = none-from-start _; bytes = sym (carried-none _ _ _ _ (sym (c .before .before .carries .ensures) ∙ c .before .if1 .left)) }
+returns-2 c = record { place = none-from-start _; bytes = sym (carried-bytes-none _ _ _ _ (sym (c .before .before .carries .ensures) ∙ c .before .if1 .left)) }
 
 pub carried-bytes-spec : {M : Type 1} → statement M
 carried-bytes-spec =

@@ -1,7 +1,7 @@
 -- 12 comes from the layout, 13 from the content; a plan that passes both is measured. Assumes nothing.
 use mathlib.Core.Path.{sym, _∙_}
-use Rattle.reader.proofs.Reading.{says-laid-out}
-use Rattle.reader.proofs.ReadAnswer.{read-says-layout, layout-passed, read-says-sizes, read-says-content, read-promise}
+use Rattle.reader.proofs.Reading.{says-layout, says-laid-out}
+use Rattle.reader.proofs.ReadAnswer.{read-says-layout, read-says-sizes, read-says-content, read-promise}
 use borrow.Author.Needs.{needs}
 use Rattle.reader.proofs.read.read_plan.Statement.{statement}
 use Rattle.reader.proofs.read.read_plan.Tie as tie
@@ -22,7 +22,7 @@ content-holds-requires : tie.Need-content-holds-requires
 content-holds-requires c κs =
     let l = c .before .before .before in
     let passed = c .before .if1 .left in (
-      layout-passed _ (l .plan-layout .result) (l .plan-layout .ensures) passed,
+      says-layout _ (l .plan-layout .result) (l .plan-layout .ensures) passed,
       says-laid-out _ (l .plan-layout .result) (l .plan-layout .ensures) passed .links,
     )
 
@@ -44,7 +44,7 @@ returns-3 c =
     let at-plan-layout = at-if1 .before .before in
     let at-args = at-plan-layout .before .before in
     let says = read-says-content (at-args .args .plan .now) _
-    (layout-passed _ (at-plan-layout .plan-layout .result) (at-plan-layout .plan-layout .ensures) (at-if1 .if1 .left))
+    (says-layout _ (at-plan-layout .plan-layout .result) (at-plan-layout .plan-layout .ensures) (at-if1 .if1 .left))
     (sym (c .before .before .content-holds .ensures) ∙ c .before .if2 .left) (c .no-sizes .ensures) in (says, read-promise _ _ says)
 
 pub read-plan-spec : {M : Type 1} → statement M
