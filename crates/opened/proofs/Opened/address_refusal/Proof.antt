@@ -1,4 +1,4 @@
--- `opened::Opened::address_refusal` meets its contract, which is that of `address_refusal_carried` on the plan's bytes, its sizes and the card.
+-- `opened::Opened::address_refusal` meets its contract: that of `address_refusal_carried` on the plan's bytes, its sizes and the card.
 -- Its MIR is walked by hand, and opened/proofs/Methods has the rest. Assumes nothing.
 use mathlib.Core.Path.{refl}
 use mathlib.Core.List.{List, [], _∷_}
@@ -38,14 +38,18 @@ use Rattle.opened.proofs.Opened.address_refusal.Code as code
 
 module _ {M : Type 1} (𝓤 : URA M) (H : Heap 𝓤) (A : Atoms 𝓤) (W : Given 𝓤 H A) (C : Calls 𝓤 H) (Λ : Loops 𝓤 H) (fm : FmC 𝓤 H (W .laws) C)
     (d : Opened) (card : ℕ) where
+  -- the machine values of the other parameters, and of what the function is passed
+  abbrev others : List Val
+  others = vint w32 card ∷ []
+
   abbrev passed : List Val
-  passed = bytes-value d ∷ vint w32 (d .cards) ∷ vint w32 (d .links) ∷ vint w32 (d .columns) ∷ vint w32 card ∷ []
+  passed = bytes-value d ∷ vint w32 (d .cards) ∷ vint w32 (d .links) ∷ vint w32 (d .columns) ∷ others
 
   walk : Typed-plan d → card < 2 ^ 32
-      → Takes-apart 𝓤 H (WpFn 𝓤 H C Λ code.function) (C #opened·carried·address-refusal-carried) d (vint w32 card ∷ []) u32
+      → Takes-apart 𝓤 H (WpFn 𝓤 H C Λ code.function) (C #opened·carried·address-refusal-carried) d others u32
   walk wt ok₀ Q K h =
       qed W (raw (C #opened·carried·address-refusal-carried passed Q) ∷ []) ∵
-      enter ! C Λ code.function (T′.lowered d ∷ vint w32 card ∷ []) K $
+      enter ! C Λ code.function (T′.lowered d ∷ others) K $
       alloc1 ! (λ l₀. alloc1 ! (λ l₁. alloc1 ! (λ l₂. alloc1 ! (λ l₃. alloc1 ! (λ l₄. alloc1 ! (λ l₅. alloc1 ! (λ l₆.
       alloc0 ! $ params1 ! $ pass1 ! (init ! 10 refl wt) $ pass1 ! (init ! 8 refl (tt, record { fits = ok₀ })) $
       pass0 ! $
@@ -67,7 +71,8 @@ module _ {M : Type 1} (𝓤 : URA M) (H : Heap 𝓤) (A : Atoms 𝓤) (W : Given
       land ! (from ! (stop !)) (init ! 13 refl (is .0)) $ returns ! (look ! 13 refl) $
       forget ! 1 refl $ forget ! 3 refl $ forget ! 5 refl $ forget ! 7 refl $ forget ! 9 refl $ forget ! 11 refl $ forget ! 13 refl $
       move ! (13 ∷ 14 ∷ []) $ free1 ! $ move ! (11 ∷ 12 ∷ []) $ free1 ! $ move ! (9 ∷ 10 ∷ []) $ free1 ! $ move ! (7 ∷ 8 ∷ []) $ free1 ! $
-      move ! (5 ∷ 6 ∷ []) $ free1 ! $ move ! (3 ∷ 4 ∷ []) $ free1 ! $ move ! (1 ∷ 2 ∷ []) $ free1 ! $ free0 ! $ done !)))))))))
+      move ! (5 ∷ 6 ∷ []) $ free1 ! $ move ! (3 ∷ 4 ∷ []) $ free1 ! $ move ! (1 ∷ 2 ∷ []) $ free1 ! $
+      free0 ! $ done !)))))))))
 
 pub address-refusal-spec : {M : Type 1} → stated.statement M
 unfolding code.routine tablesOf

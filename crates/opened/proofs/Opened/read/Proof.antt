@@ -1,4 +1,4 @@
--- `opened::Opened::read` meets its contract, which is that of `read_carried` on the plan's bytes and its sizes.
+-- `opened::Opened::read` meets its contract: that of `read_carried` on the plan's bytes and its sizes.
 -- Its MIR is walked by hand, and opened/proofs/Methods has the rest. Assumes nothing.
 use mathlib.Core.Path.{refl}
 use mathlib.Core.List.{List, [], _∷_}
@@ -36,11 +36,12 @@ use Rattle.opened.proofs.Opened.read.Code as code
 
 module _ {M : Type 1} (𝓤 : URA M) (H : Heap 𝓤) (A : Atoms 𝓤) (W : Given 𝓤 H A) (C : Calls 𝓤 H) (Λ : Loops 𝓤 H) (fm : FmC 𝓤 H (W .laws) C)
     (d : Opened) where
+  -- the machine values of what the function is passed
   abbrev passed : List Val
   passed = bytes-value d ∷ vint w32 (d .cards) ∷ vint w32 (d .links) ∷ vint w32 (d .columns) ∷ []
 
   walk : Typed-plan d
-      → Takes-apart 𝓤 H (WpFn 𝓤 H C Λ code.function) (C #opened·carried·read-carried) d ([]) Y.the-row
+      → Takes-apart 𝓤 H (WpFn 𝓤 H C Λ code.function) (C #opened·carried·read-carried) d [] Y.the-row
   walk wt Q K h =
       qed W (raw (C #opened·carried·read-carried passed Q) ∷ []) ∵
       enter ! C Λ code.function (T′.lowered d ∷ []) K $
@@ -63,7 +64,8 @@ module _ {M : Type 1} (𝓤 : URA M) (H : Heap 𝓤) (A : Atoms 𝓤) (W : Given
       land ! (from ! (stop !)) (init ! 11 refl (is .0)) $ returns ! (look ! 11 refl) $
       forget ! 1 refl $ forget ! 3 refl $ forget ! 5 refl $ forget ! 7 refl $ forget ! 9 refl $ forget ! 11 refl $
       move ! (11 ∷ 12 ∷ []) $ free1 ! $ move ! (9 ∷ 10 ∷ []) $ free1 ! $ move ! (7 ∷ 8 ∷ []) $ free1 ! $ move ! (5 ∷ 6 ∷ []) $ free1 ! $
-      move ! (3 ∷ 4 ∷ []) $ free1 ! $ move ! (1 ∷ 2 ∷ []) $ free1 ! $ free0 ! $ done !))))))))
+      move ! (3 ∷ 4 ∷ []) $ free1 ! $ move ! (1 ∷ 2 ∷ []) $ free1 ! $
+      free0 ! $ done !))))))))
 
 pub read-spec : {M : Type 1} → stated.statement M
 unfolding code.routine tablesOf

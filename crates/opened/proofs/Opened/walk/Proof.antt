@@ -1,4 +1,4 @@
--- `opened::Opened::walk` meets its contract, which is that of `walk_carried` on the plan's bytes, its sizes, the two cards, the counts and the lent numbers.
+-- `opened::Opened::walk` meets its contract: that of `walk_carried` on the plan's bytes, its sizes, the two cards, the counts and the lent numbers.
 -- Its MIR is walked by hand, and opened/proofs/Methods has the rest. Assumes nothing.
 use mathlib.Core.Path.{refl}
 use mathlib.Core.List.{List, [], _∷_}
@@ -46,19 +46,25 @@ use Rattle.opened.proofs.Opened.walk.Code as code
 
 module _ {M : Type 1} (𝓤 : URA M) (H : Heap 𝓤) (A : Atoms 𝓤) (W : Given 𝓤 H A) (C : Calls 𝓤 H) (Λ : Loops 𝓤 H) (fm : FmC 𝓤 H (W .laws) C)
     (d : Opened) (origin goal : ℕ) (traffic : Traffic) (b o : ℕ) (ys : List ℕ) where
+  -- the machine values of the other parameters, and of what the function is passed
+  abbrev others : List Val
+  others = vint w32 origin ∷ vint w32 goal ∷ X′.lowered traffic ∷ sliceVal (b, o) (length ys) ∷ []
+
   abbrev passed : List Val
-  passed = bytes-value d ∷ vint w32 (d .cards) ∷ vint w32 (d .links) ∷ vint w32 (d .columns) ∷ vint w32 origin ∷ vint w32 goal ∷ X′.lowered traffic ∷ sliceVal (b, o) (length ys) ∷ []
+  passed = bytes-value d ∷ vint w32 (d .cards) ∷ vint w32 (d .links) ∷ vint w32 (d .columns) ∷ others
 
   walk : Typed-plan d → origin < 2 ^ 32 → goal < 2 ^ 32 → Is X.the-row traffic (X′.lowered traffic ∷ []) → Room u16 (length ys)
-      → Takes-apart 𝓤 H (WpFn 𝓤 H C Λ code.function) (C #opened·carried·walk-carried) d (vint w32 origin ∷ vint w32 goal ∷ X′.lowered traffic ∷ sliceVal (b, o) (length ys) ∷ []) Y.the-row
+      → Takes-apart 𝓤 H (WpFn 𝓤 H C Λ code.function) (C #opened·carried·walk-carried) d others Y.the-row
   walk wt ok₀ ok₁ ok₂ room Q K h =
       qed W (raw (C #opened·carried·walk-carried passed Q) ∷ []) ∵
-      enter ! C Λ code.function (T′.lowered d ∷ vint w32 origin ∷ vint w32 goal ∷ X′.lowered traffic ∷ sliceVal (b, o) (length ys) ∷ []) K $
+      enter ! C Λ code.function (T′.lowered d ∷ others) K $
       alloc1 ! (λ l₀. alloc1 ! (λ l₁. alloc1 ! (λ l₂. alloc1 ! (λ l₃. alloc1 ! (λ l₄. alloc1 ! (λ l₅. alloc1 ! (λ l₆. alloc1 ! (λ l₇.
       alloc1 ! (λ l₈. alloc1 ! (λ l₉. alloc1 ! (λ l₁₀. alloc1 ! (λ l₁₁.
       alloc0 ! $ params1 ! $ pass1 ! (init ! 20 refl wt) $ pass1 ! (init ! 18 refl (tt, record { fits = ok₀ })) $
-      pass1 ! (init ! 16 refl (tt, record { fits = ok₁ })) $ pass1 ! (init ! 14 refl (LL.lawful X.the-type X′.the-laws 𝓤 H A W .typed traffic _ ok₂ .0)) $
-      pass1 ! (init ! 12 refl (tt, (tt, (record { fits = room .0 }, tt)))) $ pass0 ! $
+      pass1 ! (init ! 16 refl (tt, record { fits = ok₁ })) $
+      pass1 ! (init ! 14 refl (LL.lawful X.the-type X′.the-laws 𝓤 H A W .typed traffic _ ok₂ .0)) $
+      pass1 ! (init ! 12 refl (tt, (tt, (record { fits = room .0 }, tt)))) $
+      pass0 ! $
       assigns ! (of-opd ! (load ! (from ! (fld ! refl (stop !))) (look-in ! 20 (sub ! 0 refl (whole !))))) (from ! (stop !))
       (init ! 10 refl (tt, wt .1 .0)) $
       assigns ! (of-opd ! (load ! (from ! (fld ! refl (stop !))) (look-in ! 20 (sub ! 1 refl (whole !))))) (from ! (stop !))
@@ -85,12 +91,14 @@ module _ {M : Type 1} (𝓤 : URA M) (H : Heap 𝓤) (A : Atoms 𝓤) (W : Given
       forget ! 15 refl $ forget ! 17 refl $ forget ! 19 refl $ forget ! 21 refl $ forget ! 23 refl $
       move ! (23 ∷ 24 ∷ []) $ free1 ! $ move ! (21 ∷ 22 ∷ []) $ free1 ! $ move ! (19 ∷ 20 ∷ []) $ free1 ! $ move ! (17 ∷ 18 ∷ []) $ free1 ! $
       move ! (15 ∷ 16 ∷ []) $ free1 ! $ move ! (13 ∷ 14 ∷ []) $ free1 ! $ move ! (11 ∷ 12 ∷ []) $ free1 ! $ move ! (9 ∷ 10 ∷ []) $ free1 ! $
-      move ! (7 ∷ 8 ∷ []) $ free1 ! $ move ! (5 ∷ 6 ∷ []) $ free1 ! $ move ! (3 ∷ 4 ∷ []) $ free1 ! $ move ! (1 ∷ 2 ∷ []) $ free1 ! $ free0 ! $ done !))))))))))))))
+      move ! (7 ∷ 8 ∷ []) $ free1 ! $ move ! (5 ∷ 6 ∷ []) $ free1 ! $ move ! (3 ∷ 4 ∷ []) $ free1 ! $ move ! (1 ∷ 2 ∷ []) $ free1 ! $
+      free0 ! $ done !))))))))))))))
 
 pub walk-spec : {M : Type 1} → stated.statement M
 unfolding code.routine tablesOf
 walk-spec 𝓤 H 𝓜 𝓖 𝓡 =
-    method-meets 1 (number-slot ∷ number-slot ∷ plain (λ _. X.the-row) ∷ SliceRefMutOf (1 ∷ []) tt (plain (λ _. u16)) (λ _. tt) ∷ []) (yes, (yes, (yes, (yes, tt)))) (this.signature .result) 𝓤 H 𝓜 𝓖 𝓡
+    method-meets 1 (number-slot ∷ number-slot ∷ plain (λ _. X.the-row) ∷ SliceRefMutOf (1 ∷ []) tt (plain (λ _. u16)) (λ _. tt) ∷ [])
+    (yes, (yes, (yes, (yes, tt)))) (this.signature .result) 𝓤 H 𝓜 𝓖 𝓡
     (this.clauses 𝓤 H (𝓖 .A) (𝓜 .mem) (𝓡 .run)) (callee.clauses 𝓤 H (𝓖 .A) (𝓜 .mem) (𝓡 .run))
     (record { ghost = λ κs a g. tt; asks = λ κs a g. id⊢ 𝓤 _; claims = λ κs a g r ws. id⊢ 𝓤 _ })
     code.env #opened·Opened·walk code.function (code.unfolded 𝓤 H 𝓜 𝓡)
@@ -98,5 +106,6 @@ walk-spec 𝓤 H 𝓜 𝓖 𝓡 =
     (λ κs. (uint-vals w32, (uint-vals w32, (LL.vals X.the-type X′.the-laws, (slice-vals, tt)))))
     (λ κs. (uint-tells w32, (uint-tells w32, (LL.tells X.the-type X′.the-laws, (mut-slice-tells (named 1) (κs .1 .0) u16, tt)))))
     (λ κs. LL.lawful Y.the-type Y′.the-laws 𝓤 H (𝓖 .A) (givenOf 𝓤 H 𝓜 𝓖))
-    (λ C Λ fm κs d others wt are. walk 𝓤 H (𝓖 .A) (givenOf 𝓤 H 𝓜 𝓖) C Λ fm d (others .0) (others .1 .0) (others .1 .1 .0) (others .1 .1 .1 .0 .ptr .0) (others .1 .1 .1 .0 .ptr .1) (others .1 .1 .1 .0 .now)
+    (λ C Λ fm κs d others wt are. walk 𝓤 H (𝓖 .A) (givenOf 𝓤 H 𝓜 𝓖) C Λ fm d (others .0) (others .1 .0) (others .1 .1 .0)
+    (others .1 .1 .1 .0 .ptr .0) (others .1 .1 .1 .0 .ptr .1) (others .1 .1 .1 .0 .now)
     wt (are .0 .1) (are .1 .0 .1) (are .1 .1 .0) (are .1 .1 .1 .0 .0 .1))
