@@ -1,12 +1,28 @@
 -- Each early return leaves a fact of the layout that fails, and at the end all hold: the answer is 12 or the sizes read. Assumes nothing.
-use mathlib.Core.Path.{refl}
+use mathlib.Core.Path.{_≡_, refl}
+use Prim.Native.Nat.{_+_, _*_}
 use native.Mathlib.Omega.{arith}
+use Rattle.rack.specs.PlanFile.{address-size, addresses-start}
 use Rattle.rack.proofs.PlanFile.{start-counted}
 use Rattle.reader.proofs.Plan.{layout-head, layout-read}
 use Rattle.reader.proofs.Reading.{layout-refused, layout-passed}
 use borrow.Author.Needs.{needs}
 use Rattle.reader.proofs.layout.plan_layout.Statement.{statement}
 use Rattle.reader.proofs.layout.plan_layout.Tie as tie
+
+-- where the sizes were read, and the length that they give
+module _ (c : tie.After-address-start) where
+  abbrev at-k : tie.After-number-at3
+  at-k = c .before .before .before .before .before .before
+
+  abbrev at-m : tie.After-number-at2
+  at-m = at-k .before
+
+  abbrev at-n : tie.After-number-at
+  at-n = at-m .before
+
+  counted : c .address-start .result ≡ addresses-start (at-m .number-at2 .result) + at-n .number-at .result * address-size (at-k .number-at3 .result)
+  counted = start-counted _ _ _ _ _ (c .before .address-size .ensures .0) (c .address-start .ensures .0)
 
 no-sizes-requires : tie.Need-no-sizes-requires
 no-sizes-requires c κs = search needs
@@ -58,16 +74,13 @@ no-sizes-requires-6 c κs = search needs
 
 returns-6 : tie.Need-returns-6
 returns-6 c =
-    let at-start = c .before .before in
-    let at-size = at-start .before in
-    let at-k = at-size .before .before .before .before .before in
-    let at-m = at-k .before in
-    let n = at-m .before .number-at in
-    let m = at-m .number-at2 in
-    let k = at-k .number-at3 in
+    let at = c .before .before in
+    let n = at-n at .number-at in
+    let m = at-m at .number-at2 in
+    let k = at-k at .number-at3 in
     layout-refused _ _ (λ z.
     let read = layout-read _ (n .result) (m .result) (k .result) (n .ensures .0) (m .ensures .0) (k .ensures .0) z in
-    omega (arith, read .long, start-counted _ _ _ _ _ (at-size .address-size .ensures .0) (at-start .address-start .ensures .0))) (c .no-sizes6 .ensures)
+    omega (arith, read .long, counted at)) (c .no-sizes6 .ensures)
 
 cast-t9 : tie.Need-cast-t9
 cast-t9 c = search needs
@@ -80,22 +93,16 @@ cast-t11 c = search needs
 
 returns-7 : tie.Need-returns-7
 returns-7 c =
-    let at-start = c .before in
-    let at-size = at-start .before in
-    let at-k = at-size .before .before .before .before .before in
-    let at-m = at-k .before in
-    let n = at-m .before .number-at in
-    let m = at-m .number-at2 in
-    let k = at-k .number-at3 in
+    let at = c .before in
     layout-passed _ _ (record {
-      cards = n .ensures .0;
-      links = m .ensures .0;
-      columns = k .ensures .0;
+      cards = at-n at .number-at .ensures .0;
+      links = at-m at .number-at2 .ensures .0;
+      columns = at-k at .number-at3 .ensures .0;
       some = omega arith;
       few = omega arith;
       few-links = omega arith;
       few-columns = omega arith;
-      long = omega (arith, start-counted _ _ _ _ _ (at-size .address-size .ensures .0) (at-start .address-start .ensures .0));
+      long = omega (arith, counted at);
     }) refl
 
 pub plan-layout-spec : {M : Type 1} → statement M
