@@ -1,7 +1,7 @@
 -- Answers as the tests read them: the refusal's number, and the other fields in lent numbers. Assumes nothing: these are definitions.
 use mathlib.Core.Path.{_≡_}
 use mathlib.Core.Bool.{cond}
-use mathlib.Core.Logic.{_≢_}
+use mathlib.Core.Logic.{_⊎_, _≢_}
 use mathlib.Core.List.{List, []}
 use Prim.Native.Nat.{ℕ}
 use lib.Dec.{eqb}
@@ -29,10 +29,10 @@ counts f h = record { frames = f; hops = h }
 abbrev pub walked-in : (number : ℕ) → List ℕ → Walked
 walked-in x ys = record { number = x; arrived = getD ys 0 0; hops = getD ys 1 0; traffic = counts (getD ys 2 0) (getD ys 3 0) }
 
--- what the call says, where just as many numbers are lent as its answer has fields; else 1, and all that is lent is as it was
-pub record Told (fields : ℕ) (r : ℕ) (old new : List ℕ) (Kept Says : Type 0) : Type 0 where
-  pub right : length old ≡ fields → Says
-  pub wrong : length old ≢ fields → (r ≡ 1) × (new ≡ old) × Kept
+-- just as many numbers are lent as the answer has fields, and the call says this; or not as many, and it is 1 and all that is lent is
+-- as it was
+pub record Told (fields r : ℕ) (old new : List ℕ) (Kept Says : Type 0) : Type 0 where
+  pub either : ((length old ≡ fields) × Says) ⊎ ((length old ≢ fields) × (r ≡ 1) × (new ≡ old) × Kept)
 
 -- what the calls on a plan see that was opened for them: its bytes, or none of them where reading refuses it
 unfoldable pub opened-for : List ℕ → List ℕ

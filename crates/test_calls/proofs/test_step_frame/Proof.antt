@@ -2,13 +2,13 @@
 use native.Mathlib.Omega.{arith}
 use Rattle.forwarder.specs.Calls.{Step-says}
 use Rattle.forwarder.specs.declared.step.Stepped.{Stepped}
-use Rattle.test_calls.proofs.Telling.{told}
+use Rattle.test_calls.proofs.Telling.{told, untold}
 use borrow.Author.Needs.{needs}
 use Rattle.test_calls.proofs.test_step_frame.Statement.{statement}
 use Rattle.test_calls.proofs.test_step_frame.Tie as tie
 
 returns : tie.Need-returns
-returns c = search needs
+returns c = untold (λ e. omega arith) tt
 
 step-frame-requires : tie.Need-step-frame-requires
 step-frame-requires c κs = search needs

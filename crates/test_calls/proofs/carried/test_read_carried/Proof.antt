@@ -3,13 +3,13 @@ use native.Mathlib.Omega.{arith}
 use Rattle.reader.specs.Reading.{Read-says}
 use Rattle.reader.specs.declared.layout.Sizes.{Sizes}
 use Rattle.opened.specs.Opening.{carried-bytes}
-use Rattle.test_calls.proofs.Telling.{told}
+use Rattle.test_calls.proofs.Telling.{told, untold}
 use borrow.Author.Needs.{needs}
 use Rattle.test_calls.proofs.carried.test_read_carried.Statement.{statement}
 use Rattle.test_calls.proofs.carried.test_read_carried.Tie as tie
 
 returns : tie.Need-returns
-returns c = search needs
+returns c = untold (λ e. omega arith) tt
 
 read-carried-requires : tie.Need-read-carried-requires
 read-carried-requires c κs = search needs

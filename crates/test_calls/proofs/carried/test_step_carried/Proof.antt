@@ -3,13 +3,13 @@ use native.Mathlib.Omega.{arith}
 use Rattle.forwarder.specs.Calls.{Step-says}
 use Rattle.forwarder.specs.declared.step.Stepped.{Stepped}
 use Rattle.opened.specs.Opening.{carried-bytes}
-use Rattle.test_calls.proofs.Telling.{told}
+use Rattle.test_calls.proofs.Telling.{told, untold}
 use borrow.Author.Needs.{needs}
 use Rattle.test_calls.proofs.carried.test_step_carried.Statement.{statement}
 use Rattle.test_calls.proofs.carried.test_step_carried.Tie as tie
 
 returns : tie.Need-returns
-returns c = search needs
+returns c = untold (λ e. omega arith) tt
 
 step-carried-requires : tie.Need-step-carried-requires
 step-carried-requires c κs = search needs

@@ -3,13 +3,13 @@ use native.Mathlib.Omega.{arith}
 use Rattle.forwarder.specs.Calls.{Step-says}
 use Rattle.forwarder.specs.declared.step.Stepped.{Stepped}
 use Rattle.test_calls.specs.Answers.{opened-for}
-use Rattle.test_calls.proofs.Telling.{told}
+use Rattle.test_calls.proofs.Telling.{told, untold}
 use borrow.Author.Needs.{needs}
 use Rattle.test_calls.proofs.opening.test_opened_step.Statement.{statement}
 use Rattle.test_calls.proofs.opening.test_opened_step.Tie as tie
 
 returns : tie.Need-returns
-returns c = search needs
+returns c = untold (λ e. omega arith) tt
 
 open-and-step-requires : tie.Need-open-and-step-requires
 open-and-step-requires c κs = search needs
