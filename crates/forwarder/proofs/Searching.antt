@@ -16,6 +16,7 @@ use Rattle.rack.proofs.Logic.{true-not-false, by-bool, by-eq, and-left, and-rig
 use Rattle.rack.proofs.WiringFile.{wiring-at-count}
 use Rattle.rack.specs.PlanFile.{plan-cards, plan-wiring, plan-hamming}
 use Rattle.reader.specs.Reading.{Laid-out}
+use Rattle.reader.specs.declared.layout.Sizes.{Sizes}
 use Rattle.forwarder.specs.Forwarding.{leads-nearer, step}
 use Rattle.forwarder.specs.Promises.{Step-first}
 use Rattle.forwarder.specs.Calls.{Step-is}
@@ -89,32 +90,32 @@ module _ (ps : List ℕ) (b left : ℕ) where
 abbrev pub None-before : List ℕ → (a b i : ℕ) → Type 0
 None-before ps a b i = (j : ℕ) → j < i → leads-nearer ps a b (link-at (plan-wiring ps) j) ≡ false
 
-module _ (ps : List ℕ) (n m k a b : ℕ) (z : Laid-out ps n m k) where
+module _ (ps : List ℕ) (s : Sizes) (a b : ℕ) (z : Laid-out ps s) where
   -- link i with its far card c, tested
-  module _ (i c left : ℕ) (e : c ≡ far-card n a (link-at (plan-wiring ps) i)) (f : left ≡ plan-hamming ps a b) where
+  module _ (i c left : ℕ) (e : c ≡ far-card (s .cards) a (link-at (plan-wiring ps) i)) (f : left ≡ plan-hamming ps a b) where
     abbrev tested : Bool
-    tested = ltb c n && ltb (plan-hamming ps c b) left
+    tested = ltb c (s .cards) && ltb (plan-hamming ps c b) left
 
     nearer-tested : leads-nearer ps a b (link-at (plan-wiring ps) i) ≡ tested
     nearer-tested = rw (e, z .cards, f) (leads-nearer-far ps a b (link-at (plan-wiring ps) i))
 
-    pub tested-card : tested ≡ true → c < n
-    tested-card t = ltb-true c n (and-left (ltb c n) (ltb (plan-hamming ps c b) left) t)
+    pub tested-card : tested ≡ true → c < s .cards
+    tested-card t = ltb-true c (s .cards) (and-left (ltb c (s .cards)) (ltb (plan-hamming ps c b) left) t)
 
     pub step-passed : None-before ps a b i → tested ≡ false → None-before ps a b (i + 1)
     step-passed none t = below-more (λ j. leads-nearer ps a b (link-at (plan-wiring ps) j) ≡ false) i none (nearer-tested ∙ t)
 
-    pub step-found : a ≢ b → i < m → None-before ps a b i → tested ≡ true → Step-is (step ps a b) (record { number = 0; outcome = 2; link = i; far = c })
+    pub step-found : a ≢ b → i < s .links → None-before ps a b i → tested ≡ true → Step-is (step ps a b) (record { number = 0; outcome = 2; link = i; far = c })
     unfolding Step-first
     step-found d h none t =
-        let s = step-first ps a b .1 i d (omega (arith, z .links, wiring-at-count 6 ps)) (nearer-tested ∙ t) none in
-        rw s (record { number = refl; outcome = refl; link = refl; far = e ∙ far-inside n a (link-at (plan-wiring ps) i) (rw e at (tested-card t)) })
+        let x = step-first ps a b .1 i d (omega (arith, z .links, wiring-at-count 6 ps)) (nearer-tested ∙ t) none in
+        rw x (record { number = refl; outcome = refl; link = refl; far = e ∙ far-inside (s .cards) a (link-at (plan-wiring ps) i) (rw e at (tested-card t)) })
 
-  pub step-none : (r : Stepped) → a ≢ b → None-before ps a b m → No-link 0 0 r → Step-is (step ps a b) r
+  pub step-none : (r : Stepped) → a ≢ b → None-before ps a b (s .links) → No-link 0 0 r → Step-is (step ps a b) r
   unfolding Step-first
   step-none r d none f =
-      let s = step-first ps a b .2 d (λ i h. none i (omega (arith, z .links, wiring-at-count 6 ps))) in
-      rw s (record { number = f .number; outcome = f .outcome; link = f .link; far = f .far })
+      let x = step-first ps a b .2 d (λ i h. none i (omega (arith, z .links, wiring-at-count 6 ps))) in
+      rw x (record { number = f .number; outcome = f .outcome; link = f .link; far = f .far })
 
 pub step-arrived : (ps : List ℕ) (a b : ℕ) (r : Stepped) → a ≡ b → No-link 0 1 r → Step-is (step ps a b) r
 step-arrived ps a b r e f = rw (e, step-here ps b) (record { number = f .number; outcome = f .outcome; link = f .link; far = f .far })

@@ -35,7 +35,7 @@ pub record No-link (x o : ℕ) (r : Stepped) : Type 0 where
 -- 12, 14, or the sizes of a plan that has both cards
 pub record Frame-sizes (ps : List ℕ) (a b : ℕ) (r : Sizes) : Type 0 where
   pub number : r .number ≡ step-refusal ps a b
-  pub sizes : r .number ≡ 0 → Laid-out ps (r .cards) (r .links) (r .columns)
+  pub sizes : r .number ≡ 0 → Laid-out ps r
   pub from : r .number ≡ 0 → a < r .cards
   pub goal : r .number ≡ 0 → b < r .cards
 

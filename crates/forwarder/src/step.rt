@@ -27,13 +27,15 @@ pub struct Stepped {
     pub far: u32,
 }
 
-// The card at the other end of link `i` of `m` where it is one of card `a`'s, between two of the `n` cards; else `n`.
-fn far_card(plan: &[u8], n: usize, m: usize, k: usize, i: usize, a: usize) -> usize
-    requires { ⌜ Laid-out (now plan) n m k × (i < m) × (a < n) ⌝ }
-    ensures { λ r. ⌜ r ≡ far-card n a (link-at (plan-wiring (now (plan .entry))) i) ⌝ }
+// The card at the other end of link `i` where it is one of card `a`'s, between two of the cards; else the number of cards.
+fn far_card(plan: &[u8], sizes: Sizes, i: u32, a: usize) -> usize
+    requires { ⌜ Laid-out (now plan) sizes × (i < sizes .links) × (a < sizes .cards) ⌝ }
+    ensures { λ r. ⌜ r ≡ far-card (sizes .cards) a (link-at (plan-wiring (now (plan .entry))) i) ⌝ }
 {
-    let p = first_end(plan, 6, m, i);
-    let q = second_end(plan, 6, m, i);
+    let n = sizes.cards as usize;
+    let m = sizes.links as usize;
+    let p = first_end(plan, 6, m, i as usize);
+    let q = second_end(plan, 6, m, i as usize);
     if p == a {
         if n <= q {
             return n;
@@ -54,25 +56,23 @@ fn far_card(plan: &[u8], n: usize, m: usize, k: usize, i: usize, a: usize) -> us
 fn is_nearer(
     ones: &[u8; 256],
     plan: &[u8],
-    n: usize,
-    m: usize,
-    k: usize,
+    sizes: Sizes,
     c: usize,
     b: usize,
     left: u32,
     marks: &mut [bool; MOST_CARDS],
 ) -> bool
-    requires { ⌜ Counts (now ones) × Laid-out (now plan) n m k × (b < n) × No-nearer (now plan) b left (now marks) ⌝ }
-    ensures is { λ r. ⌜ r ≡ (ltb c n && ltb (plan-hamming (now (plan .entry)) c b) left) ⌝ }
+    requires { ⌜ Counts (now ones) × Laid-out (now plan) sizes × (b < sizes .cards) × No-nearer (now plan) b left (now marks) ⌝ }
+    ensures is { λ r. ⌜ r ≡ (ltb c (sizes .cards) && ltb (plan-hamming (now (plan .entry)) c b) left) ⌝ }
     ensures holds { λ r. ⌜ No-nearer (now (plan .entry)) b left (now (marks .exit)) ⌝ }
 {
-    if n <= c {
+    if sizes.cards as usize <= c {
         return false;
     }
     if marks[c] {
         return false;
     }
-    if plan_hamming(ones, plan, n, m, k, c, b) < left {
+    if plan_hamming(ones, plan, sizes, c, b) < left {
         return true;
     }
     marks[c] = true;
@@ -92,31 +92,23 @@ fn no_link(number: u32, outcome: u32) -> Stepped
 }
 
 // The step from card `a` towards card `b`: over the first link that leads nearer.
-pub fn step_between(
-    ones: &[u8; 256],
-    plan: &[u8],
-    n: usize,
-    m: usize,
-    k: usize,
-    a: usize,
-    b: usize,
-) -> Stepped
-    requires { ⌜ Counts (now ones) × Laid-out (now plan) n m k × (a < n) × (b < n) ⌝ }
+pub fn step_between(ones: &[u8; 256], plan: &[u8], sizes: Sizes, a: usize, b: usize) -> Stepped
+    requires { ⌜ Counts (now ones) × Laid-out (now plan) sizes × (a < sizes .cards) × (b < sizes .cards) ⌝ }
     ensures { λ r. ⌜ Step-is (step (now (plan .entry)) a b) r ⌝ }
 {
     if a == b {
         return no_link(0, 1);
     }
-    let left = plan_hamming(ones, plan, n, m, k, a, b);
+    let left = plan_hamming(ones, plan, sizes, a, b);
     let mut marks = [false; MOST_CARDS];
-    let mut i: usize = 0;
-    while i < m {
-        let c = far_card(plan, n, m, k, i, a);
-        if is_nearer(ones, plan, n, m, k, c, b, left, &mut marks) {
+    let mut i: u32 = 0;
+    while i < sizes.links {
+        let c = far_card(plan, sizes, i, a);
+        if is_nearer(ones, plan, sizes, c, b, left, &mut marks) {
             return Stepped {
                 number: 0,
                 outcome: 2,
-                link: i as u32,
+                link: i,
                 far: c as u32,
             };
         }
@@ -151,13 +143,5 @@ pub fn step_frame(plan: &[u8], from: u32, goal: u32) -> Stepped
         return no_link(sizes.number, 0);
     }
     let ones = ones_table();
-    step_between(
-        &ones,
-        plan,
-        sizes.cards as usize,
-        sizes.links as usize,
-        sizes.columns as usize,
-        from as usize,
-        goal as usize,
-    )
+    step_between(&ones, plan, sizes, from as usize, goal as usize)
 }

@@ -12,6 +12,7 @@ ghost use Rattle.forwarder.specs.Parts.{Counted, Route-is, Unwalked};
 use crate::step::frame_sizes;
 use crate::step::step_between;
 use rack::ones::ones_table;
+use reader::layout::Sizes;
 
 // The length of the lent numbers, one for each card.
 pub const LENT_MET: usize = 256;
@@ -41,27 +42,19 @@ struct Route {
 }
 
 // Walks from card `a` to card `b`.
-fn walk_between(
-    ones: &[u8; 256],
-    plan: &[u8],
-    n: usize,
-    m: usize,
-    k: usize,
-    a: usize,
-    b: usize,
-) -> Route
-    requires { ⌜ Counts (now ones) × Laid-out (now plan) n m k × (a < n) × (b < n) ⌝ }
+fn walk_between(ones: &[u8; 256], plan: &[u8], sizes: Sizes, a: usize, b: usize) -> Route
+    requires { ⌜ Counts (now ones) × Laid-out (now plan) sizes × (a < sizes .cards) × (b < sizes .cards) ⌝ }
     ensures { λ r. ⌜ Route-is (walk (now (plan .entry)) a b) r ⌝ }
 {
     let mut met = [0u16; LENT_MET];
     met[0] = a as u16;
     let mut taken: usize = 0;
-    let mut s = step_between(ones, plan, n, m, k, a, b);
+    let mut s = step_between(ones, plan, sizes, a, b);
     while s.outcome == 2 {
         let at = s.far;
         taken += 1;
         met[taken] = at as u16;
-        s = step_between(ones, plan, n, m, k, at as usize, b);
+        s = step_between(ones, plan, sizes, at as usize, b);
     }
     Route {
         arrived: s.outcome,
@@ -139,15 +132,7 @@ pub fn walk_frame(plan: &[u8], from: u32, goal: u32, traffic: Traffic, met: &mut
         return not_walked(sizes.number, traffic);
     }
     let ones = ones_table();
-    let route = walk_between(
-        &ones,
-        plan,
-        sizes.cards as usize,
-        sizes.links as usize,
-        sizes.columns as usize,
-        from as usize,
-        goal as usize,
-    );
+    let route = walk_between(&ones, plan, sizes, from as usize, goal as usize);
     let answer = counted(traffic, route.arrived, route.hops);
     if answer.number != 0 {
         return answer;

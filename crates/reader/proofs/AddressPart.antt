@@ -9,9 +9,9 @@ use base.Fml.{GName}
 use lib.ListN.{length, take, drop}
 use borrow.Author.Tests.{eq-eqb, ne-eqb, le-leb, lt-leb}
 use Rattle.rack.proofs.Logic.{by-eq, by-lt}
-use Rattle.rack.specs.PlanFile.{plan-cards, plan-links, plan-columns, address-size, addresses-start, address-start}
+use Rattle.rack.specs.PlanFile.{plan-cards, plan-columns, address-size, addresses-start, address-start}
 use Rattle.reader.specs.Plan.{plan-refusal}
-use Rattle.reader.specs.Reading.{Read-says, address-refusal, address-part, Laid-out, address-offset, Address-says}
+use Rattle.reader.specs.Reading.{Sizes-say, Read-says, address-refusal, address-part, Laid-out, address-offset, Address-says}
 use Rattle.reader.specs.declared.layout.Sizes.{Sizes}
 use Rattle.reader.proofs.Plan.{layout-facts, layout-read, plan-clear}
 use Rattle.reader.proofs.Addresses.{address-counted}
@@ -67,34 +67,27 @@ module _ (ps : List ℕ) (c : ℕ) (r : Sizes) (s : Read-says ps r) where
     read : plan-refusal ps ≡ 0
     read = sym (s .number) ∙ e
 
-    cards-answered : r .cards ≡ plan-cards ps
-    cards-answered = s .cards ∙ rw (eq-eqb (plan-refusal ps) 0 read) refl
-
-    links-answered : r .links ≡ plan-links ps
-    links-answered = s .links ∙ rw (eq-eqb (plan-refusal ps) 0 read) refl
-
-    columns-answered : r .columns ≡ plan-columns ps
-    columns-answered = s .columns ∙ rw (eq-eqb (plan-refusal ps) 0 read) refl
+    sizes-answered : Sizes-say ps 0 r
+    sizes-answered = rw read at s
 
     pub address-outside : r .cards ≤ c → Handed ps c 14 0 []
-    address-outside h = none-handed ps c 14 (λ z. omega arith) (sym (card-refused ps c read (omega (arith, cards-answered))))
+    address-outside h = none-handed ps c 14 (λ z. omega arith) (sym (card-refused ps c read (omega (arith, sizes-answered .cards))))
 
     -- the sizes answered are a layout's, and the part lies inside the plan
-    pub read-laid-out : Laid-out ps (r .cards) (r .links) (r .columns)
-    read-laid-out =
-        layout-read ps (r .cards) (r .links) (r .columns) cards-answered links-answered columns-answered (layout-facts ps (plan-clear ps read .0))
+    pub read-laid-out : Laid-out ps r
+    read-laid-out = layout-read ps r sizes-answered (layout-facts ps (plan-clear ps read .0))
 
     -- the part that begins at the start and has the size that the code counts
     module _ (size start : ℕ) (inside : c < r .cards) (sized : size ≡ address-size (r .columns)) (starts : start ≡ addresses-start (r .links) + c * size) where
       counted : (start ≡ address-start ps c) × (start + size ≤ length ps) × (size ≡ (r .columns + 7) / 8)
-      counted = address-counted ps (r .cards) (r .links) (r .columns) read-laid-out c size start inside sized starts
+      counted = address-counted ps r read-laid-out c size start inside sized starts
 
       pub address-ends : start + size ≤ length ps
       address-ends = counted .1
 
       pub address-handed : Handed ps c (r .number) start (take (start + size - start) (drop start ps))
       address-handed =
-          let clear = card-clear ps c read (omega (arith, cards-answered)) in
+          let clear = card-clear ps c read (omega (arith, sizes-answered .cards)) in
           let z = clear-part ps c clear in
           handed ps c (r .number) start (take (start + size - start) (drop start ps)) (counted .0 ∙ sym (z .0))
-          (rw (add-sub-cancel-left, counted .0, sized, columns-answered) (sym (z .1))) (e ∙ sym clear)
+          (rw (add-sub-cancel-left, counted .0, sized, sizes-answered .columns) (sym (z .1))) (e ∙ sym clear)

@@ -12,6 +12,7 @@ use Rattle.rack.proofs.Hamming.{hamming-none, hamming-le, hamming-add, hamming-
 use Rattle.rack.specs.PlanFile.{plan-columns, plan-bit, plan-hamming, address-size, addresses-start, address-start}
 use Rattle.rack.proofs.PlanFile.{address-size-is, start-counted}
 use Rattle.reader.specs.Reading.{Laid-out, bit-from}
+use Rattle.reader.specs.declared.layout.Sizes.{Sizes}
 
 module _ (ps : List ℕ) where
   -- BYTES from a place on: bit i of byte t, and the differing places of t bytes and k bits more
@@ -36,18 +37,18 @@ module _ (ps : List ℕ) where
   hamming-columns a b = hamming-le (plan-columns ps) (plan-bit ps a) (plan-bit ps b)
 
   -- where the code counts that the address of card c begins, it does, and it ends inside the plan
-  module _ (n m k : ℕ) (z : Laid-out ps n m k) where
-    pub address-counted : (c size start : ℕ) → c < n → size ≡ address-size k → start ≡ addresses-start m + c * size
-        → (start ≡ address-start ps c) × (start + size ≤ length ps) × (size ≡ (k + 7) / 8)
+  module _ (s : Sizes) (z : Laid-out ps s) where
+    pub address-counted : (c size start : ℕ) → c < s .cards → size ≡ address-size (s .columns) → start ≡ addresses-start (s .links) + c * size
+        → (start ≡ address-start ps c) × (start + size ≤ length ps) × (size ≡ (s .columns + 7) / 8)
     address-counted c size start h e f =
-        let g : (c + 1) * size ≤ n * size = mul-le-mul-right size (omega arith) in
-        let l : n * address-size k ≡ n * size = ap (λ (s : ℕ). n * s) (sym e) in (
-          start-counted m k c size start e f ∙ place,
+        let g : (c + 1) * size ≤ s .cards * size = mul-le-mul-right size (omega arith) in
+        let l : s .cards * address-size (s .columns) ≡ s .cards * size = ap (λ (x : ℕ). s .cards * x) (sym e) in (
+          start-counted (s .links) (s .columns) c size start e f ∙ place,
           omega (arith, z .long),
-          e ∙ address-size-is k,
+          e ∙ address-size-is (s .columns),
         )
       where
-        place : addresses-start m + c * address-size k ≡ address-start ps c
+        place : addresses-start (s .links) + c * address-size (s .columns) ≡ address-start ps c
         place = rw (z .links, z .columns) refl
 
   -- the differing places of two addresses that begin at p and q: of the whole bytes, and of what is left in the last one

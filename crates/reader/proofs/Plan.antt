@@ -21,11 +21,12 @@ use Rattle.planner.specs.PlanBytes.{plan-bytes}
 use Rattle.planner.proofs.PlanBytes.{length-plan, written-cards, written-links, written-columns, written-wiring}
 use Rattle.rack.specs.PlanFile.{plan-cards, plan-links, plan-columns, plan-wiring, address-size, addresses-start}
 use Rattle.reader.specs.Plan.{layout-holds, content-holds, plan-refusal}
-use Rattle.reader.specs.Reading.{Laid-out}
+use Rattle.reader.specs.Reading.{Laid-out, Sizes-say}
+use Rattle.reader.specs.declared.layout.Sizes.{Sizes}
 
 -- THE LAYOUT: the test holds exactly with the facts of `Laid-out`, at the sizes that the plan has
 abbrev pub Layout : List ℕ → Type 0
-Layout ps = Laid-out ps (plan-cards ps) (plan-links ps) (plan-columns ps)
+Layout ps = Laid-out ps (record { number = 0; cards = plan-cards ps; links = plan-links ps; columns = plan-columns ps })
 
 module _ (ps : List ℕ) where
   abbrev layout-length : ℕ
@@ -58,27 +59,31 @@ module _ (ps : List ℕ) where
       (leb-true (plan-columns ps) most-columns (and-right t₄ (leb (plan-columns ps) most-columns) h₅))
       (eqb-true (length ps) layout-length (and-right t₅ long-test h))
 
-  pub layout-head : Layout ps → 6 ≤ length ps
+  pub layout-head : {s : Sizes} → Laid-out ps s → 6 ≤ length ps
   layout-head z = omega (arith, z .long)
 
-  pub facts-layout : Layout ps → layout-holds ps ≡ true
+  pub facts-layout : {s : Sizes} → Laid-out ps s → layout-holds ps ≡ true
   unfolding layout-holds
-  facts-layout z =
+  facts-layout {s} z =
       rw (
+        ← z .cards,
+        ← z .links,
+        ← z .columns,
         le-leb 6 (length ps) (layout-head z),
-        le-leb 1 (plan-cards ps) (z .some),
-        le-leb (plan-cards ps) most-cards (z .few),
-        le-leb (plan-links ps) most-links (z .few-links),
-        le-leb (plan-columns ps) most-columns (z .few-columns),
-        eq-eqb (length ps) layout-length (z .long),
+        le-leb 1 (s .cards) (z .some),
+        le-leb (s .cards) most-cards (z .few),
+        le-leb (s .links) most-links (z .few-links),
+        le-leb (s .columns) most-columns (z .few-columns),
+        eq-eqb (length ps) (addresses-start (s .links) + s .cards * address-size (s .columns)) (z .long),
       ) refl
 
   -- whoever has read the sizes has the same facts of what was read
-  pub layout-read : (n m k : ℕ) → n ≡ plan-cards ps → m ≡ plan-links ps → k ≡ plan-columns ps → Layout ps → Laid-out ps n m k
-  layout-read n m k en em ek z = rw (en, em, ek) z
-
-  pub read-layout : (n m k : ℕ) → Laid-out ps n m k → Layout ps
-  read-layout n m k z = rw (← z .cards, ← z .links, ← z .columns) z
+  pub layout-read : (s : Sizes) → Sizes-say ps 0 s → Layout ps → Laid-out ps s
+  layout-read s e z = read (s .number) (s .cards) (s .links) (s .columns) (e .number) (e .cards) (e .links) (e .columns)
+    where
+      read : (x n m k : ℕ) → x ≡ 0 → n ≡ plan-cards ps → m ≡ plan-links ps → k ≡ plan-columns ps
+          → Laid-out ps (record { number = x; cards = n; links = m; columns = k })
+      read x n m k ex en em ek = rw (ex, en, em, ek) z
 
   -- A PLAN THAT WAS READ
   pub plan-clear : plan-refusal ps ≡ 0 → (layout-holds ps ≡ true) × (wiring-refusal (plan-wiring ps) .number ≡ 0) × (plan-bytes (plan-wiring ps) ≡ ps)

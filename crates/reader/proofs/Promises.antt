@@ -153,7 +153,7 @@ module _ (ps : List ℕ) (c : ℕ) (e : address-refusal ps c ≡ 0) where
 
   handed-size : length (address-part ps c) ≡ size
   handed-size =
-      let z = address-counted ps _ _ _ (layout-facts ps (plan-clear ps was-read .0)) c size start (clear-card ps c e .1) refl refl in
+      let z = address-counted ps _ (layout-facts ps (plan-clear ps was-read .0)) c size start (clear-card ps c e .1) refl refl in
       ap length (clear-part ps c e .1) ∙ length-part start size ps (z .1)
 
   handed-bit : (j : ℕ) → j < 8 * size → bit-from (address-part ps c) 0 j ≡ plan-bit ps c j

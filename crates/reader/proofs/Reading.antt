@@ -10,7 +10,7 @@ use Rattle.rack.proofs.Logic.{by-bool, not-true-false}
 use Rattle.reader.specs.Plan.{layout-holds}
 use Rattle.reader.specs.Reading.{Laid-out, Sizes-say, no-sizes, layout-refusal, Layout-says}
 use Rattle.reader.specs.declared.layout.Sizes.{Sizes}
-use Rattle.reader.proofs.Plan.{Layout, layout-facts, facts-layout, layout-read, read-layout}
+use Rattle.reader.proofs.Plan.{Layout, layout-facts, facts-layout, layout-read}
 
 module _ (ps : List ℕ) where
   -- a refusal has no sizes
@@ -23,23 +23,20 @@ module _ (ps : List ℕ) where
   unfolding layout-refusal
   layout-refused r h e = rw (not-true-false (layout-holds ps) (λ t. h (layout-facts ps t))) (no-sizes-say 12 r (λ z. omega arith) e)
 
-  pub layout-passed : (r : Sizes) → Laid-out ps (r .cards) (r .links) (r .columns) → r .number ≡ 0 → Layout-says ps r
+  pub layout-passed : (r : Sizes) → Laid-out ps r → r .number ≡ 0 → Layout-says ps r
   unfolding layout-refusal
   layout-passed r z e =
       let s : Sizes-say ps 0 r = record { number = e; cards = z .cards; links = z .links; columns = z .columns } in
-      rw (facts-layout ps (read-layout ps (r .cards) (r .links) (r .columns) z)) s
+      rw (facts-layout ps z) s
 
   -- WHAT A CALLER LEARNS from the answer
   pub says-layout : (r : Sizes) → Layout-says ps r → r .number ≡ 0 → layout-holds ps ≡ true
   unfolding layout-refusal
   says-layout r s e = by-bool (layout-holds ps) (λ t. t) (λ (t : layout-holds ps ≡ false). let n = rw t at (s .number) in absurd (omega arith))
 
-  pub says-laid-out : (r : Sizes) → Layout-says ps r → r .number ≡ 0 → Laid-out ps (r .cards) (r .links) (r .columns)
+  pub says-laid-out : (r : Sizes) → Layout-says ps r → r .number ≡ 0 → Laid-out ps r
   unfolding layout-refusal
-  says-laid-out r s e =
-      let t = says-layout r s e in
-      let f : Sizes-say ps 0 r = rw t at s in
-      layout-read ps (r .cards) (r .links) (r .columns) (f .cards) (f .links) (f .columns) (layout-facts ps t)
+  says-laid-out r s e = let t = says-layout r s e in layout-read ps r (rw t at s) (layout-facts ps t)
 
   pub says-no-layout : (r : Sizes) → Layout-says ps r → r .number ≢ 0 → layout-holds ps ≡ false
   unfolding layout-refusal

@@ -13,15 +13,15 @@ use Rattle.reader.specs.Plan.{layout-holds, plan-refusal}
 use Rattle.reader.specs.declared.layout.Sizes.{Sizes}
 
 -- the sizes of a plan that passed 12
-pub record Laid-out (ps : List ℕ) (n m k : ℕ) : Type 0 where
-  pub cards : n ≡ plan-cards ps
-  pub links : m ≡ plan-links ps
-  pub columns : k ≡ plan-columns ps
-  pub some : 1 ≤ n
-  pub few : n ≤ most-cards
-  pub few-links : m ≤ most-links
-  pub few-columns : k ≤ most-columns
-  pub long : length ps ≡ addresses-start m + n * address-size k
+pub record Laid-out (ps : List ℕ) (s : Sizes) : Type 0 where
+  pub cards : s .cards ≡ plan-cards ps
+  pub links : s .links ≡ plan-links ps
+  pub columns : s .columns ≡ plan-columns ps
+  pub some : 1 ≤ s .cards
+  pub few : s .cards ≤ most-cards
+  pub few-links : s .links ≤ most-links
+  pub few-columns : s .columns ≤ most-columns
+  pub long : length ps ≡ addresses-start (s .links) + s .cards * address-size (s .columns)
 
 -- bit j of the bytes from a place on
 unfoldable pub bit-from : List ℕ → (at j : ℕ) → Bool

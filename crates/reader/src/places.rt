@@ -7,6 +7,7 @@ ghost use Rattle.rack.specs.Columns.{hamming};
 ghost use Rattle.rack.specs.Ones.{Counts};
 ghost use Rattle.rack.specs.PlanFile.{plan-hamming};
 ghost use Rattle.reader.specs.Reading.{Laid-out, bit-from};
+use crate::layout::Sizes;
 use rack::places::byte_hamming;
 use rack::plan_file::address_size;
 use rack::plan_file::address_start;
@@ -34,19 +35,13 @@ fn low_hamming(ones: &[u8; 256], x: u8, y: u8, k: usize) -> u32
     byte_hamming(ones, x % weight, y % weight)
 }
 
-// The places among the first `k` columns in which the addresses of two cards differ.
-pub fn plan_hamming(
-    ones: &[u8; 256],
-    plan: &[u8],
-    n: usize,
-    m: usize,
-    k: usize,
-    a: usize,
-    b: usize,
-) -> u32
-    requires { ⌜ Counts (now ones) × Laid-out (now plan) n m k × (a < n) × (b < n) ⌝ }
+// The places in which the addresses of two cards differ.
+pub fn plan_hamming(ones: &[u8; 256], plan: &[u8], sizes: Sizes, a: usize, b: usize) -> u32
+    requires { ⌜ Counts (now ones) × Laid-out (now plan) sizes × (a < sizes .cards) × (b < sizes .cards) ⌝ }
     ensures { λ r. ⌜ r ≡ plan-hamming (now (plan .entry)) a b ⌝ }
 {
+    let m = sizes.links as usize;
+    let k = sizes.columns as usize;
     let size = address_size(k);
     let first = address_start(m, size, a);
     let second = address_start(m, size, b);

@@ -18,25 +18,16 @@ returns c = step-refused _ _ _ _ _ (c .before .before .before .frame-sizes .ensu
 ones-table-requires : tie.Need-ones-table-requires
 ones-table-requires c κs = search needs
 
-cast-step-between : tie.Need-cast-step-between
-cast-step-between c = search needs
-
-cast-step-between-2 : tie.Need-cast-step-between-2
-cast-step-between-2 c = search needs
-
-cast-step-between-3 : tie.Need-cast-step-between-3
-cast-step-between-3 c = search needs
-
 step-between-requires : tie.Need-step-between-requires
 step-between-requires c κs =
-    let at-ones-table = c .before .before .before .before in
+    let at-ones-table = c .before in
     let at-frame-sizes = at-ones-table .before .before .before in
     let s = at-frame-sizes .frame-sizes in
     (at-ones-table .ones-table .ensures, s .ensures .sizes (omega arith), s .ensures .from (omega arith), s .ensures .goal (omega arith))
 
 returns-2 : tie.Need-returns-2
 returns-2 c =
-    let at-frame-sizes = c .before .before .before .before .before .before .before .before in
+    let at-frame-sizes = c .before .before .before .before .before in
     step-answered _ _ _ _ (sym (at-frame-sizes .frame-sizes .ensures .number) ∙ omega arith) (c .step-between .ensures)
 
 pub step-frame-spec : {M : Type 1} → statement M
@@ -47,8 +38,5 @@ step-frame-spec =
     no-link-requires
     returns
     ones-table-requires
-    cast-step-between
-    cast-step-between-2
-    cast-step-between-3
     step-between-requires
     returns-2)

@@ -7,13 +7,13 @@ use Rattle.forwarder.proofs.walk.walk_between.Statement.{statement}
 use Rattle.forwarder.proofs.walk.walk_between.Tie as tie
 
 abbrev Inv-loop : tie.InvT-loop
-Inv-loop ones plan n m k a b met₀ taken₀ s₀ met taken s = On-the-way plan a b met taken s
+Inv-loop ones plan sizes a b met₀ taken₀ s₀ met taken s = On-the-way plan a b met taken s
 
 abbrev μ-loop : tie.MeasureT-loop
-μ-loop ones plan n m k a b met₀ taken₀ s₀ met taken s = 256 - taken
+μ-loop ones plan sizes a b met₀ taken₀ s₀ met taken s = 256 - taken
 
 -- a step over a link leaves room for its card
-known : (c : tie.Then1 Inv-loop μ-loop) → let n = c .before .before .before .before .before .args .n in let l = c .before .before .loop in (l .taken < 255) × (l .s .far < n) × (n < 257)
+known : (c : tie.Then1 Inv-loop μ-loop) → let n = c .before .before .before .before .before .args .sizes .cards in let l = c .before .before .loop in (l .taken < 255) × (l .s .far < n) × (n < 257)
 known c =
     let s = c .before .before .before .before .before in
     let z = s .pre .1 in
@@ -66,8 +66,8 @@ loop-again c =
     (c .before .if1 .taken) (omega (arith, z .columns, z .few-columns)) _
     (c .step-between2 .ensures)
 
-cast-t20 : tie.Need-cast-t20 Inv-loop μ-loop
-cast-t20 c =
+cast-t18 : tie.Need-cast-t18 Inv-loop μ-loop
+cast-t18 c =
     let s = c .before .before .before .before .before in
     let z = s .pre .1 in
     omega (arith, z .columns, z .few-columns, few-steps (s .args .plan .now) (s .args .a) (s .args .b) _ _ _ (c .before .before .loop .inv))
@@ -96,5 +96,5 @@ walk-between-spec =
     step-between-requires-2
     loop-less
     loop-again
-    cast-t20
+    cast-t18
     returns)

@@ -25,18 +25,9 @@ returns-2 c = with-arrival _ _ _ _ _ _ _ (says-no-frame _ _ _ _ _ _ _ (omega ari
 ones-table-requires : tie.Need-ones-table-requires
 ones-table-requires c κs = search needs
 
-cast-walk-between : tie.Need-cast-walk-between
-cast-walk-between c = search needs
-
-cast-walk-between-2 : tie.Need-cast-walk-between-2
-cast-walk-between-2 c = search needs
-
-cast-walk-between-3 : tie.Need-cast-walk-between-3
-cast-walk-between-3 c = search needs
-
 walk-between-requires : tie.Need-walk-between-requires
 walk-between-requires c κs =
-    let at-ones-table = c .before .before .before .before in
+    let at-ones-table = c .before in
     let at-frame-sizes = at-ones-table .before .before .before in
     let s = at-frame-sizes .frame-sizes in
     (at-ones-table .ones-table .ensures, s .ensures .sizes (omega arith), s .ensures .from (omega arith), s .ensures .goal (omega arith))
@@ -47,7 +38,7 @@ counted-requires c κs = search needs
 returns-3 : tie.Need-returns-3
 returns-3 c =
     let at-walk-between = c .before .before .before in
-    let at-if2 = at-walk-between .before .before .before .before .before .before in
+    let at-if2 = at-walk-between .before .before .before in
     let at-frame-sizes = at-if2 .before .before in
     let at-if1 = at-frame-sizes .before in
     with-arrival _ _ _ _ _ _ _
@@ -58,7 +49,7 @@ returns-3 c =
 copy-cards-requires : tie.Need-copy-cards-requires
 copy-cards-requires c κs =
     let w = c .before .before .before .before .before .before in
-    (w .walk-between .ensures .room, omega (arith, w .before .before .before .before .before .before .before .before .before .if1 .left))
+    (w .walk-between .ensures .room, omega (arith, w .before .before .before .before .before .before .if1 .left))
 
 same-length : tie.Need-same-length
 same-length c = search needs
@@ -68,7 +59,7 @@ returns-4 c =
     let at-if3 = c .before .before .before .before .before .before in
     let at-counted = at-if3 .before .before in
     let at-walk-between = at-counted .before in
-    let at-if2 = at-walk-between .before .before .before .before .before .before in
+    let at-if2 = at-walk-between .before .before .before in
     let at-frame-sizes = at-if2 .before .before in
     let at-if1 = at-frame-sizes .before in
     with-arrival _ _ _ _ _ _ _
@@ -87,9 +78,6 @@ walk-frame-spec =
     not-walked-requires-2
     returns-2
     ones-table-requires
-    cast-walk-between
-    cast-walk-between-2
-    cast-walk-between-3
     walk-between-requires
     counted-requires
     returns-3

@@ -79,7 +79,7 @@ returns-6 c =
     let m = at-m at .number-at2 in
     let k = at-k at .number-at3 in
     layout-refused _ _ (λ z.
-    let read = layout-read _ (n .result) (m .result) (k .result) (n .ensures .0) (m .ensures .0) (k .ensures .0) z in
+    let read = layout-read _ _ (record { number = refl; cards = n .ensures .0; links = m .ensures .0; columns = k .ensures .0 }) z in
     omega (arith, read .long, counted at)) (c .no-sizes6 .ensures)
 
 cast-t9 : tie.Need-cast-t9

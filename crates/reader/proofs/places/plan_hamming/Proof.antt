@@ -12,22 +12,28 @@ use Rattle.reader.proofs.places.plan_hamming.Tie as tie
 -- both addresses begin where the code counts, and end inside the plan
 module _ (c : tie.After-address-start2) where
   abbrev start : tie.Start
-  start = c .before .before .before .before
+  start = c .before .before .before .before .before .before
 
   abbrev size : ℕ
   size = c .before .before .address-size .result
 
   abbrev Counted : (card at : ℕ) → Type 0
   Counted card at =
-      let z = start .args in (at ≡ address-start (z .plan .now) card) × (at + size ≤ length (z .plan .now)) × (size ≡ (z .k + 7) / 8)
+      let z = start .args in (at ≡ address-start (z .plan .now) card) × (at + size ≤ length (z .plan .now)) × (size ≡ (z .sizes .columns + 7) / 8)
 
-  counted : (card at : ℕ) → card < start .args .n → at ≡ addresses-start (start .args .m) + card * size → Counted card at
+  counted : (card at : ℕ) → card < start .args .sizes .cards → at ≡ addresses-start (start .args .sizes .links) + card * size → Counted card at
   counted card at h e =
       let z = start .args in
-      address-counted (z .plan .now) (z .n) (z .m) (z .k) (start .pre .1) card size at h (c .before .before .address-size .ensures .0) e
+      address-counted (z .plan .now) (z .sizes) (start .pre .1) card size at h (c .before .before .address-size .ensures .0) e
 
   known : Counted (start .args .a) (c .before .address-start .result) × Counted (start .args .b) (c .address-start2 .result)
   known = (counted _ _ (start .pre .2) (c .before .address-start .ensures .0), counted _ _ (start .pre .3) (c .address-start2 .ensures .0))
+
+cast-m : tie.Need-cast-m
+cast-m c = search needs
+
+cast-k : tie.Need-cast-k
+cast-k c = search needs
 
 address-size-requires : tie.Need-address-size-requires
 address-size-requires c κs = search needs
@@ -47,7 +53,7 @@ returns c =
     let s = start at in
     let k = known at in
     c .before .bytes-hamming .ensures
-    ∙ sym (plan-hamming-whole (s .args .plan .now) (s .args .a) (s .args .b) (s .args .k) _ _ (s .pre .1 .columns) (k .0 .0) (k .1 .0) (omega arith))
+    ∙ sym (plan-hamming-whole (s .args .plan .now) (s .args .a) (s .args .b) (s .args .sizes .columns) _ _ (s .pre .1 .columns) (k .0 .0) (k .1 .0) (omega arith))
 
 add-low-hamming : tie.Need-add-low-hamming
 add-low-hamming c = search needs
@@ -69,7 +75,7 @@ returns-2 c =
     let at = c .before .before .before .before .before in
     let s = start at in
     let k = known at in
-    let e = plan-hamming-bytes (s .args .plan .now) (s .args .a) (s .args .b) (s .args .k) _ _ (s .pre .1 .columns) (k .0 .0) (k .1 .0) in
+    let e = plan-hamming-bytes (s .args .plan .now) (s .args .a) (s .args .b) (s .args .sizes .columns) _ _ (s .pre .1 .columns) (k .0 .0) (k .1 .0) in
     omega arith
 
 -- their sum is at most the number of columns
@@ -82,6 +88,8 @@ pub plan-hamming-spec : {M : Type 1} → statement M
 plan-hamming-spec =
     tie.close
     (tie.spec
+    cast-m
+    cast-k
     address-size-requires
     address-start-requires
     address-start-requires-2
