@@ -4,7 +4,8 @@ use Rattle.rack.specs.Promises.{Embedding-unique, Choices-as-rows, Columns-once
 use Rattle.rack.proofs.Promises as rack
 use Rattle.planner.specs.Promises.{Planning-finds, Writing-finds}
 use Rattle.planner.proofs.Promises as planner
-use Rattle.reader.specs.Promises.{Read-exactly, Calls-agree, Layout-in-range, Address-fits, Reader-promise, Refused-address-empty, No-such-card}
+use Rattle.reader.specs.Promises.{Read-exactly, Calls-agree, Layout-in-range, Address-fits, Largest-plan, Reader-promise}
+use Rattle.reader.specs.Promises.{Address-whole, Refused-address-empty, No-such-card}
 use Rattle.reader.proofs.Promises as reader
 use Rattle.forwarder.specs.Promises.{Step-first, Step-local, Step-call-local, Walk-ends, Frame-arrives, Walk-arrives, Walk-full, Stuck-uncounted}
 use Rattle.forwarder.proofs.Promises as forwarder
@@ -97,9 +98,17 @@ layout-in-range = reader.layout-in-range
 pub address-fits : Address-fits
 address-fits = reader.address-fits
 
+-- the largest plan has the length of the lent buffer
+pub largest-plan : Largest-plan
+largest-plan = reader.largest-plan
+
 -- what the forwarder may lean on
 pub reader-promise : Reader-promise
 reader-promise = reader.reader-promise
+
+-- an address that is handed out has all its bits, and zeros behind them
+pub address-whole : Address-whole
+address-whole = reader.address-whole
 
 -- a refused address is empty, and 14 is said of a plan that was read
 pub refused-address-empty : Refused-address-empty
