@@ -16,7 +16,7 @@ use Rattle.rack.proofs.Tables.{tabulate-ext, blocks-ext}
 use Rattle.rack.proofs.Accepted.{file-clear}
 use Rattle.rack.proofs.WiringFile.{Sized, wiring-at-cards, wiring-at-count}
 use Rattle.planner.specs.OpenColumns.{bit-in, Words-of}
-use Rattle.planner.specs.Planning.{Answer-is}
+use Rattle.planner.specs.Planning.{Answer-is, Refuses}
 use Rattle.planner.specs.Words.{word-bit}
 use Rattle.planner.specs.declared.Answer.{Answer}
 use Rattle.planner.proofs.AddressWords.{word-bit-column}
@@ -68,13 +68,12 @@ module _ (bs : List ℕ) (r : Answer) (ws : List ℕ) (p : Planned bs r ws) wher
         (rack-lines-words (file-wiring bs) ws (p .1 .words z) (accepted-sizes bs accepted .columns))
 
 -- WHAT THE CALL SAYS
-pub listing-says-one : (bs : List ℕ) (r : Answer) (text : List ℕ) → length text ≢ lent-text → r .number ≡ 1 → r .at ≡ 0 → r .value ≡ 0
-    → Listing-says bs r text text
+pub listing-says-one : (bs : List ℕ) (r : Answer) (text : List ℕ) → length text ≢ lent-text → Refuses 1 0 r → Listing-says bs r text text
 unfolding listing-refusal
-listing-says-one bs r text t n a v =
+listing-says-one bs r text t f =
     record {
-      answer = rw (ne-eqb (length text) lent-text t) (record { number = n; at = a; value = v });
-      text-left = rw n (sym (left-untouched (listing bs) text));
+      answer = rw (ne-eqb (length text) lent-text t) (record { number = f .number; at = f .at; value = f .value });
+      text-left = rw (f .number) (sym (left-untouched (listing bs) text));
     }
 
 module _ (bs text zeros now : List ℕ) (v : ℕ) (room : length text ≡ lent-text) (p : Puts 0 zeros now (listing bs) v) where

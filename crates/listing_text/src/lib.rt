@@ -8,6 +8,7 @@ use lines::put_rack;
 use lines::put_refused;
 use planner::Answer;
 use planner::plan_file;
+use planner::refused;
 use rack::bytes::number_at;
 use rack::fill::clear_bytes;
 use rack::limits::LENT_HOPS;
@@ -36,11 +37,7 @@ pub fn listing_text(file: &[u8], text: &mut [u8]) -> Answer
     ensures { λ r. ⌜ Listing-says (now (file .entry)) r (now (text .entry)) (now (text .exit)) ⌝ }
 {
     if text.len() != LENT_TEXT {
-        return Answer {
-            number: 1,
-            at: 0,
-            value: 0,
-        };
+        return refused(1, 0);
     }
     clear_bytes(text);
     let mut words = [0u64; LENT_WORDS];

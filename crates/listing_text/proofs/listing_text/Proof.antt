@@ -1,15 +1,18 @@
 -- The text written into the cleared buffer is the listing, and fits. With 1 nothing is touched. Assumes nothing.
-use mathlib.Core.Path.{refl, _∙_}
+use mathlib.Core.Path.{_∙_}
 use native.Mathlib.Omega.{arith}
 use Rattle.listing_text.proofs.Listings.{listing-says-one, listed-inside, listing-says-text}
 use borrow.Author.Needs.{needs}
 use Rattle.listing_text.proofs.listing_text.Statement.{statement}
 use Rattle.listing_text.proofs.listing_text.Tie as tie
 
+refused-requires : tie.Need-refused-requires
+refused-requires c κs = search needs
+
 returns : tie.Need-returns
 returns c =
-    let s = c .before .before .before in
-    listing-says-one (s .args .file .now) _ (s .args .text .now) (c .if1 .taken) refl refl refl
+    let s = c .before .before .before .before in
+    listing-says-one (s .args .file .now) _ (s .args .text .now) (c .before .if1 .taken) (c .refused .ensures)
 
 clear-bytes-requires : tie.Need-clear-bytes-requires
 clear-bytes-requires c κs = search needs
@@ -57,6 +60,7 @@ pub listing-text-spec : {M : Type 1} → statement M
 listing-text-spec =
     tie.close
     (tie.spec
+    refused-requires
     returns
     clear-bytes-requires
     slice-aggregate-plan-file
