@@ -1,4 +1,6 @@
--- A plan's bytes lent to `open_plan`, and kept beside that; what is known of the plan that it returns. Assumes nothing.
+-- A plan's bytes lent to `open_plan`, and kept beside that; what is known of the plan that it returns; numbers that are passed. Assumes
+-- nothing.
+use mathlib.Core.Path.{refl}
 use Prim.Native.Nat.{ℕ}
 use mathlib.Core.List.{List, [], _∷_}
 use lib.ListN.{length}
@@ -14,16 +16,27 @@ use ghost.Atoms.{Atoms, sem}
 use contract.Monad.{Fun, fact}
 use types.Kit.{Given, ‵, raw, _⊛_, ⋆, _$_, _∵_, !, qed, move, use1, use2, split, join, fjoin, frame, done}
 use denote.RattleType.{owns}
-use denote.Builtin.{u8}
+use denote.Builtin.{u8, u32}
 use denote.Ref.{RefT, now}
+use denote.Signature.{plain}
 use denote.Slice.{sliceVal, ShrSlice, shr-slice-copy}
 use denote.Steps.{nothing}
 use denote.Triple.Statement.{Contract}
 use denote.Triple.Spec.{tripleOf}
 use denote.Triple.Clauses.{ensured, lasts}
+use denote.Triple.Walked.{Stay, Goes, stay-none, goes-none}
+use denote.Exit.{yes}
 use Rattle.opened.specs.Opening.{Opening-says}
 use Rattle.opened.specs.declared.Opened.{Opened}
 use Rattle.opened.proofs.open_plan as opens
+
+-- a number that was passed is still owned at exit, and then let go
+abbrev pub number-stays : {n : ℕ} → Stay {n = n} (plain (λ _. u32)) yes
+number-stays = stay-none (λ _. u32) yes
+
+pub number-goes : {M : Type 1} (𝓤 : URA M) (H : Heap 𝓤) (A : Atoms 𝓤) (W : Given 𝓤 H A) (n : ℕ)
+    → Goes 𝓤 H A W n (plain (λ _. u32)) yes number-stays
+number-goes 𝓤 H A W n = goes-none 𝓤 H A W n (λ _. u32) yes (λ κs x f. refl)
 
 -- the contract of `open_plan`
 abbrev pub Opens : {M : Type 1} (𝓤 : URA M) (H : Heap 𝓤) (A : Atoms 𝓤) (mem : Memory → SProp 𝓤) (run : Routine → Fun 𝓤) → Contract 𝓤

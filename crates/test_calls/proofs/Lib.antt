@@ -1,3 +1,3 @@
-pub mod Telling
+pub mod Lent
 pub mod Seen
 pub mod Lending

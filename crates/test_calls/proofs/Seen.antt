@@ -22,10 +22,10 @@ unfolding opened-for Opening-whole Refused-opening-empty
 opened-seen ps at p s = by-eq (plan-refusal ps) 0 whole none
   where
     whole : plan-refusal ps ≡ 0 → opened-bytes p ≡ opened-for ps
-    whole e = opening-whole ps at p s (s .number ∙ e) .1 ∙ sym (rw (eq-eqb (plan-refusal ps) 0 e) refl)
+    whole e = opening-whole ps at p s (s .number ∙ e) .2 ∙ sym (rw (eq-eqb (plan-refusal ps) 0 e) refl)
 
     none : plan-refusal ps ≢ 0 → opened-bytes p ≡ opened-for ps
     none h =
         ap (λ (bs : List ℕ). carried-bytes bs (p .cards) (p .links) (p .columns))
-        (refused-opening-empty ps at p s (λ e. h (sym (s .number) ∙ e)) .0)
+        (refused-opening-empty ps at p s (λ e. h (sym (s .number) ∙ e)) .1)
         ∙ none-seen (p .cards) (p .links) (p .columns) ∙ sym (rw (ne-eqb (plan-refusal ps) 0 h) refl)

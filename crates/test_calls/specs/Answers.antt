@@ -31,8 +31,8 @@ walked-in x ys = record { number = x; arrived = getD ys 0 0; hops = getD ys 1 0;
 
 -- just as many numbers are lent as the answer has fields, and the call says this; or not as many, and it is 1 and all that is lent is
 -- as it was
-pub record Told (fields r : ℕ) (old new : List ℕ) (Kept Says : Type 0) : Type 0 where
-  pub either : ((length old ≡ fields) × Says) ⊎ ((length old ≢ fields) × (r ≡ 1) × (new ≡ old) × Kept)
+pub record Answered (fields r : ℕ) (old new : List ℕ) (Untouched Says : Type 0) : Type 0 where
+  pub either : ((length old ≡ fields) × Says) ⊎ ((length old ≢ fields) × (r ≡ 1) × (new ≡ old) × Untouched)
 
 -- what the calls on a plan see that was opened for them: its bytes, or none of them where reading refuses it
 unfoldable pub opened-for : List ℕ → List ℕ

@@ -20,7 +20,7 @@ fn put_fields(fields: &[u32], answer: &mut [u32])
 }
 
 // The link or card, and the value.
-pub fn tell_answer(a: Answer, answer: &mut [u32]) -> u32
+pub fn put_answer(a: Answer, answer: &mut [u32]) -> u32
     requires { ⌜ length (now answer) ≡ 2 ⌝ }
     ensures { λ r. ⌜ answer-in r (now (answer .exit)) ≡ a ⌝ }
 {
@@ -29,7 +29,7 @@ pub fn tell_answer(a: Answer, answer: &mut [u32]) -> u32
 }
 
 // The three sizes.
-pub fn tell_sizes(s: Sizes, answer: &mut [u32]) -> u32
+pub fn put_sizes(s: Sizes, answer: &mut [u32]) -> u32
     requires { ⌜ length (now answer) ≡ 3 ⌝ }
     ensures { λ r. ⌜ sizes-in r (now (answer .exit)) ≡ s ⌝ }
 {
@@ -38,7 +38,7 @@ pub fn tell_sizes(s: Sizes, answer: &mut [u32]) -> u32
 }
 
 // The outcome, the link and the far card.
-pub fn tell_step(s: Stepped, answer: &mut [u32]) -> u32
+pub fn put_step(s: Stepped, answer: &mut [u32]) -> u32
     requires { ⌜ length (now answer) ≡ 3 ⌝ }
     ensures { λ r. ⌜ stepped-in r (now (answer .exit)) ≡ s ⌝ }
 {
@@ -47,7 +47,7 @@ pub fn tell_step(s: Stepped, answer: &mut [u32]) -> u32
 }
 
 // How it ended, its hops, and the counts.
-pub fn tell_walk(w: Walked, answer: &mut [u32]) -> u32
+pub fn put_walk(w: Walked, answer: &mut [u32]) -> u32
     requires { ⌜ length (now answer) ≡ 4 ⌝ }
     ensures { λ r. ⌜ walked-in r (now (answer .exit)) ≡ w ⌝ }
 {

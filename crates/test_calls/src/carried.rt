@@ -3,10 +3,10 @@ ghost use mathlib.Core.Path.{_≡_};
 ghost use Rattle.reader.specs.Reading.{Address-says, Read-says, address-refusal};
 ghost use Rattle.forwarder.specs.Calls.{Step-says, Walk-says};
 ghost use Rattle.opened.specs.Opening.{carried-bytes};
-ghost use Rattle.test_calls.specs.Answers.{Told, counts, sizes-in, stepped-in, walked-in};
-use crate::answers::tell_sizes;
-use crate::answers::tell_step;
-use crate::answers::tell_walk;
+ghost use Rattle.test_calls.specs.Answers.{Answered, counts, sizes-in, stepped-in, walked-in};
+use crate::answers::put_sizes;
+use crate::answers::put_step;
+use crate::answers::put_walk;
 use forwarder::walk::Traffic;
 use opened::carried::address_carried;
 use opened::carried::address_refusal_carried;
@@ -23,12 +23,12 @@ pub extern "C" fn test_read_carried(
     columns: u32,
     answer: &mut [u32],
 ) -> u32
-    ensures { λ r. ⌜ Told 3 r (now (answer .entry)) (now (answer .exit)) Unit (Read-says (carried-bytes (now (bytes .entry)) cards links columns) (sizes-in r (now (answer .exit)))) ⌝ }
+    ensures { λ r. ⌜ Answered 3 r (now (answer .entry)) (now (answer .exit)) Unit (Read-says (carried-bytes (now (bytes .entry)) cards links columns) (sizes-in r (now (answer .exit)))) ⌝ }
 {
     if answer.len() != 3 {
         return 1;
     }
-    tell_sizes(read_carried(bytes, cards, links, columns), answer)
+    put_sizes(read_carried(bytes, cards, links, columns), answer)
 }
 
 // A card's address.
@@ -71,12 +71,12 @@ pub extern "C" fn test_step_carried(
     goal: u32,
     answer: &mut [u32],
 ) -> u32
-    ensures { λ r. ⌜ Told 3 r (now (answer .entry)) (now (answer .exit)) Unit (Step-says (carried-bytes (now (bytes .entry)) cards links columns) from goal (stepped-in r (now (answer .exit)))) ⌝ }
+    ensures { λ r. ⌜ Answered 3 r (now (answer .entry)) (now (answer .exit)) Unit (Step-says (carried-bytes (now (bytes .entry)) cards links columns) from goal (stepped-in r (now (answer .exit)))) ⌝ }
 {
     if answer.len() != 3 {
         return 1;
     }
-    tell_step(
+    put_step(
         step_carried(bytes, cards, links, columns, from, goal),
         answer,
     )
@@ -96,7 +96,7 @@ pub extern "C" fn test_walk_carried(
     met: &mut [u16],
     answer: &mut [u32],
 ) -> u32
-    ensures { λ r. ⌜ Told 4 r (now (answer .entry)) (now (answer .exit)) (now (met .exit) ≡ now (met .entry)) (Walk-says (carried-bytes (now (bytes .entry)) cards links columns) from goal (counts frames hops) (walked-in r (now (answer .exit))) (now (met .entry)) (now (met .exit))) ⌝ }
+    ensures { λ r. ⌜ Answered 4 r (now (answer .entry)) (now (answer .exit)) (now (met .exit) ≡ now (met .entry)) (Walk-says (carried-bytes (now (bytes .entry)) cards links columns) from goal (counts frames hops) (walked-in r (now (answer .exit))) (now (met .entry)) (now (met .exit))) ⌝ }
 {
     if answer.len() != 4 {
         return 1;
@@ -105,7 +105,7 @@ pub extern "C" fn test_walk_carried(
         frames: frames,
         hops: hops,
     };
-    tell_walk(
+    put_walk(
         walk_carried(bytes, cards, links, columns, from, goal, traffic, met),
         answer,
     )

@@ -6,10 +6,10 @@ ghost use Rattle.planner.specs.Planning.{Plan-says};
 ghost use Rattle.reader.specs.Reading.{Address-says, address-refusal};
 ghost use Rattle.forwarder.specs.Calls.{Step-says, Walk-says};
 ghost use Rattle.listing_text.specs.Listing.{Listing-says};
-ghost use Rattle.test_calls.specs.Answers.{Told, answer-in, counts, stepped-in, walked-in};
-use answers::tell_answer;
-use answers::tell_step;
-use answers::tell_walk;
+ghost use Rattle.test_calls.specs.Answers.{Answered, answer-in, counts, stepped-in, walked-in};
+use answers::put_answer;
+use answers::put_step;
+use answers::put_walk;
 use forwarder::step::step_frame;
 use forwarder::walk::Traffic;
 use forwarder::walk::walk_frame;
@@ -29,23 +29,23 @@ pub extern "C" fn test_plan_rack(
     hops: &mut [u8],
     answer: &mut [u32],
 ) -> u32
-    ensures { λ r. ⌜ Told 2 r (now (answer .entry)) (now (answer .exit)) ((now (words .exit) ≡ now (words .entry)) × (now (hops .exit) ≡ now (hops .entry))) (Plan-says (now (file .entry)) (answer-in r (now (answer .exit))) (now (words .entry)) (now (words .exit)) (now (hops .entry)) (now (hops .exit))) ⌝ }
+    ensures { λ r. ⌜ Answered 2 r (now (answer .entry)) (now (answer .exit)) ((now (words .exit) ≡ now (words .entry)) × (now (hops .exit) ≡ now (hops .entry))) (Plan-says (now (file .entry)) (answer-in r (now (answer .exit))) (now (words .entry)) (now (words .exit)) (now (hops .entry)) (now (hops .exit))) ⌝ }
 {
     if answer.len() != 2 {
         return 1;
     }
-    tell_answer(plan_rack(file, words, hops), answer)
+    put_answer(plan_rack(file, words, hops), answer)
 }
 
 // The listing: 1. The fields are 0, and its length.
 #[no_mangle]
 pub extern "C" fn test_listing_text(file: &[u8], text: &mut [u8], answer: &mut [u32]) -> u32
-    ensures { λ r. ⌜ Told 2 r (now (answer .entry)) (now (answer .exit)) (now (text .exit) ≡ now (text .entry)) (Listing-says (now (file .entry)) (answer-in r (now (answer .exit))) (now (text .entry)) (now (text .exit))) ⌝ }
+    ensures { λ r. ⌜ Answered 2 r (now (answer .entry)) (now (answer .exit)) (now (text .exit) ≡ now (text .entry)) (Listing-says (now (file .entry)) (answer-in r (now (answer .exit))) (now (text .entry)) (now (text .exit))) ⌝ }
 {
     if answer.len() != 2 {
         return 1;
     }
-    tell_answer(listing_text(file, text), answer)
+    put_answer(listing_text(file, text), answer)
 }
 
 // A card's address: 12, 13, 14.
@@ -62,12 +62,12 @@ pub extern "C" fn test_card_address<'a>(plan: &'a [u8], card: u32, part: &mut &'
 // A step: 1, 12, 14. The fields are its outcome, the link and the far card.
 #[no_mangle]
 pub extern "C" fn test_step_frame(plan: &[u8], from: u32, goal: u32, answer: &mut [u32]) -> u32
-    ensures { λ r. ⌜ Told 3 r (now (answer .entry)) (now (answer .exit)) Unit (Step-says (now (plan .entry)) from goal (stepped-in r (now (answer .exit)))) ⌝ }
+    ensures { λ r. ⌜ Answered 3 r (now (answer .entry)) (now (answer .exit)) Unit (Step-says (now (plan .entry)) from goal (stepped-in r (now (answer .exit)))) ⌝ }
 {
     if answer.len() != 3 {
         return 1;
     }
-    tell_step(step_frame(plan, from, goal), answer)
+    put_step(step_frame(plan, from, goal), answer)
 }
 
 // A walk: 1, 12, 14, 15. The fields are 1 for arrived or 0 for stuck, the hops, and the two counts.
@@ -81,7 +81,7 @@ pub extern "C" fn test_walk_frame(
     met: &mut [u16],
     answer: &mut [u32],
 ) -> u32
-    ensures { λ r. ⌜ Told 4 r (now (answer .entry)) (now (answer .exit)) (now (met .exit) ≡ now (met .entry)) (Walk-says (now (plan .entry)) from goal (counts frames hops) (walked-in r (now (answer .exit))) (now (met .entry)) (now (met .exit))) ⌝ }
+    ensures { λ r. ⌜ Answered 4 r (now (answer .entry)) (now (answer .exit)) (now (met .exit) ≡ now (met .entry)) (Walk-says (now (plan .entry)) from goal (counts frames hops) (walked-in r (now (answer .exit))) (now (met .entry)) (now (met .exit))) ⌝ }
 {
     if answer.len() != 4 {
         return 1;
@@ -90,5 +90,5 @@ pub extern "C" fn test_walk_frame(
         frames: frames,
         hops: hops,
     };
-    tell_walk(walk_frame(plan, from, goal, traffic, met), answer)
+    put_walk(walk_frame(plan, from, goal, traffic, met), answer)
 }

@@ -1,9 +1,9 @@
 // Plans that are opened and then stepped and walked on, by the methods themselves.
 ghost use mathlib.Core.Path.{_≡_};
 ghost use Rattle.forwarder.specs.Calls.{Step-says, Walk-says};
-ghost use Rattle.test_calls.specs.Answers.{Told, counts, opened-for, stepped-in, walked-in};
-use crate::answers::tell_step;
-use crate::answers::tell_walk;
+ghost use Rattle.test_calls.specs.Answers.{Answered, counts, opened-for, stepped-in, walked-in};
+use crate::answers::put_step;
+use crate::answers::put_walk;
 use forwarder::step::Stepped;
 use forwarder::walk::Traffic;
 use forwarder::walk::Walked;
@@ -26,12 +26,12 @@ fn open_and_walk(bytes: &[u8], from: u32, goal: u32, traffic: Traffic, met: &mut
 // A step on an opened plan: 1, 12, 14.
 #[no_mangle]
 pub extern "C" fn test_opened_step(bytes: &[u8], from: u32, goal: u32, answer: &mut [u32]) -> u32
-    ensures { λ r. ⌜ Told 3 r (now (answer .entry)) (now (answer .exit)) Unit (Step-says (opened-for (now (bytes .entry))) from goal (stepped-in r (now (answer .exit)))) ⌝ }
+    ensures { λ r. ⌜ Answered 3 r (now (answer .entry)) (now (answer .exit)) Unit (Step-says (opened-for (now (bytes .entry))) from goal (stepped-in r (now (answer .exit)))) ⌝ }
 {
     if answer.len() != 3 {
         return 1;
     }
-    tell_step(open_and_step(bytes, from, goal), answer)
+    put_step(open_and_step(bytes, from, goal), answer)
 }
 
 // A walk on an opened plan: 1, 12, 14, 15.
@@ -45,7 +45,7 @@ pub extern "C" fn test_opened_walk(
     met: &mut [u16],
     answer: &mut [u32],
 ) -> u32
-    ensures { λ r. ⌜ Told 4 r (now (answer .entry)) (now (answer .exit)) (now (met .exit) ≡ now (met .entry)) (Walk-says (opened-for (now (bytes .entry))) from goal (counts frames hops) (walked-in r (now (answer .exit))) (now (met .entry)) (now (met .exit))) ⌝ }
+    ensures { λ r. ⌜ Answered 4 r (now (answer .entry)) (now (answer .exit)) (now (met .exit) ≡ now (met .entry)) (Walk-says (opened-for (now (bytes .entry))) from goal (counts frames hops) (walked-in r (now (answer .exit))) (now (met .entry)) (now (met .exit))) ⌝ }
 {
     if answer.len() != 4 {
         return 1;
@@ -54,5 +54,5 @@ pub extern "C" fn test_opened_walk(
         frames: frames,
         hops: hops,
     };
-    tell_walk(open_and_walk(bytes, from, goal, traffic, met), answer)
+    put_walk(open_and_walk(bytes, from, goal, traffic, met), answer)
 }

@@ -1,20 +1,20 @@
--- 1 comes first; else the answer is told as it is. Assumes nothing.
+-- 1 comes first; else the answer is put as it is. Assumes nothing.
 use native.Mathlib.Omega.{arith}
 use Rattle.forwarder.specs.Calls.{Step-says}
 use Rattle.forwarder.specs.declared.step.Stepped.{Stepped}
-use Rattle.test_calls.proofs.Telling.{told, untold}
+use Rattle.test_calls.proofs.Lent.{answered, not-lent}
 use borrow.Author.Needs.{needs}
 use Rattle.test_calls.proofs.test_step_frame.Statement.{statement}
 use Rattle.test_calls.proofs.test_step_frame.Tie as tie
 
 returns : tie.Need-returns
-returns c = untold (λ e. omega arith) tt
+returns c = not-lent (λ e. omega arith) tt
 
 step-frame-requires : tie.Need-step-frame-requires
 step-frame-requires c κs = search needs
 
-tell-step-requires : tie.Need-tell-step-requires
-tell-step-requires c κs = search needs
+put-step-requires : tie.Need-put-step-requires
+put-step-requires c κs = search needs
 
 same-length : tie.Need-same-length
 same-length c = search needs
@@ -22,9 +22,9 @@ same-length c = search needs
 returns-2 : tie.Need-returns-2
 returns-2 c =
     let a = c .before .before .before .before .before .before .before .before .args in
-    told (λ (s : Stepped). Step-says (a .plan .now) (a .from) (a .goal) s) (omega arith)
-    (c .before .before .tell-step .ensures) (c .before .before .before .before .step-frame .ensures)
+    answered (λ (s : Stepped). Step-says (a .plan .now) (a .from) (a .goal) s) (omega arith)
+    (c .before .before .put-step .ensures) (c .before .before .before .before .step-frame .ensures)
 
 pub test-step-frame-spec : {M : Type 1} → statement M
 test-step-frame-spec =
-    tie.close (tie.spec returns step-frame-requires tell-step-requires same-length returns-2)
+    tie.close (tie.spec returns step-frame-requires put-step-requires same-length returns-2)

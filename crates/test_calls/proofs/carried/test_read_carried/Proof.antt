@@ -1,21 +1,21 @@
--- 1 comes first; else the answer is told as it is. Assumes nothing.
+-- 1 comes first; else the answer is put as it is. Assumes nothing.
 use native.Mathlib.Omega.{arith}
 use Rattle.reader.specs.Reading.{Read-says}
 use Rattle.reader.specs.declared.layout.Sizes.{Sizes}
 use Rattle.opened.specs.Opening.{carried-bytes}
-use Rattle.test_calls.proofs.Telling.{told, untold}
+use Rattle.test_calls.proofs.Lent.{answered, not-lent}
 use borrow.Author.Needs.{needs}
 use Rattle.test_calls.proofs.carried.test_read_carried.Statement.{statement}
 use Rattle.test_calls.proofs.carried.test_read_carried.Tie as tie
 
 returns : tie.Need-returns
-returns c = untold (λ e. omega arith) tt
+returns c = not-lent (λ e. omega arith) tt
 
 read-carried-requires : tie.Need-read-carried-requires
 read-carried-requires c κs = search needs
 
-tell-sizes-requires : tie.Need-tell-sizes-requires
-tell-sizes-requires c κs = search needs
+put-sizes-requires : tie.Need-put-sizes-requires
+put-sizes-requires c κs = search needs
 
 same-length : tie.Need-same-length
 same-length c = search needs
@@ -23,9 +23,9 @@ same-length c = search needs
 returns-2 : tie.Need-returns-2
 returns-2 c =
     let a = c .before .before .before .before .before .before .before .before .args in
-    told (λ (s : Sizes). Read-says (carried-bytes (a .bytes .now) (a .cards) (a .links) (a .columns)) s) (omega arith)
-    (c .before .before .tell-sizes .ensures) (c .before .before .before .before .read-carried .ensures .says)
+    answered (λ (s : Sizes). Read-says (carried-bytes (a .bytes .now) (a .cards) (a .links) (a .columns)) s) (omega arith)
+    (c .before .before .put-sizes .ensures) (c .before .before .before .before .read-carried .ensures .says)
 
 pub test-read-carried-spec : {M : Type 1} → statement M
 test-read-carried-spec =
-    tie.close (tie.spec returns read-carried-requires tell-sizes-requires same-length returns-2)
+    tie.close (tie.spec returns read-carried-requires put-sizes-requires same-length returns-2)

@@ -1,23 +1,23 @@
--- 1 comes first; else the answer is told as it is. Assumes nothing.
+-- 1 comes first; else the answer is put as it is. Assumes nothing.
 use mathlib.Core.Path.{refl}
 use native.Mathlib.Omega.{arith}
 use Rattle.forwarder.specs.Calls.{Walk-says}
 use Rattle.forwarder.specs.declared.walk.Walked.{Walked}
 use Rattle.opened.specs.Opening.{carried-bytes}
 use Rattle.test_calls.specs.Answers.{counts}
-use Rattle.test_calls.proofs.Telling.{told, untold}
+use Rattle.test_calls.proofs.Lent.{answered, not-lent}
 use borrow.Author.Needs.{needs}
 use Rattle.test_calls.proofs.carried.test_walk_carried.Statement.{statement}
 use Rattle.test_calls.proofs.carried.test_walk_carried.Tie as tie
 
 returns : tie.Need-returns
-returns c = untold (λ e. omega arith) refl
+returns c = not-lent (λ e. omega arith) refl
 
 walk-carried-requires : tie.Need-walk-carried-requires
 walk-carried-requires c κs = search needs
 
-tell-walk-requires : tie.Need-tell-walk-requires
-tell-walk-requires c κs = search needs
+put-walk-requires : tie.Need-put-walk-requires
+put-walk-requires c κs = search needs
 
 same-length : tie.Need-same-length
 same-length c = search needs
@@ -29,11 +29,11 @@ returns-2 : tie.Need-returns-2
 returns-2 c =
     let a = c .before .before .before .before .before .before .before .before .before .before .before .before .args in
     let walked = c .before .before .before .before .before .before .walk-carried in
-    told (λ (w : Walked). Walk-says (carried-bytes (a .bytes .now) (a .cards) (a .links) (a .columns)) (a .from) (a .goal)
+    answered (λ (w : Walked). Walk-says (carried-bytes (a .bytes .now) (a .cards) (a .links) (a .columns)) (a .from) (a .goal)
     (counts (a .frames) (a .hops)) w (a .met .now) (walked .last .1 .1 .1 .1 .1 .1 .1 .0)) (omega arith)
-    (c .before .before .tell-walk .ensures) (walked .ensures .says)
+    (c .before .before .put-walk .ensures) (walked .ensures .says)
 
 pub test-walk-carried-spec : {M : Type 1} → statement M
 test-walk-carried-spec =
     tie.close
-    (tie.spec returns walk-carried-requires tell-walk-requires same-length same-length-2 returns-2)
+    (tie.spec returns walk-carried-requires put-walk-requires same-length same-length-2 returns-2)

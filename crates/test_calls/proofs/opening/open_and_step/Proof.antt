@@ -48,7 +48,7 @@ use Rattle.opened.specs.Opening.{opened-bytes}
 use Rattle.opened.specs.declared.Opened.{Opened}
 use Rattle.opened.proofs.Opened as T
 use Rattle.opened.proofs.Opened.Laws as T′
-use Rattle.opened.proofs.Held.{number-owned, number-stays, number-goes}
+use Rattle.opened.proofs.Held.{number-owned}
 use Rattle.opened.proofs.open_plan as opens
 use Rattle.opened.proofs.open_plan.Symbol as opens-def
 use Rattle.opened.proofs.open_plan.Symbol.{name as #opened·open-plan}
@@ -58,7 +58,7 @@ use Rattle.opened.proofs.Opened.step.Symbol as steps-def
 use Rattle.opened.proofs.Opened.step.Symbol.{name as #opened·Opened·step}
 use Rattle.opened.proofs.Opened.step.Met as steps-thm
 use Rattle.test_calls.proofs.Seen.{opened-seen}
-use Rattle.test_calls.proofs.Lending.{Opens, Bytes-own, bytes-at, Is-opened, to-opens, lent-to-open, opens-said}
+use Rattle.test_calls.proofs.Lending.{number-stays, number-goes, Opens, Bytes-own, bytes-at, Is-opened, to-opens, lent-to-open, opens-said}
 use Rattle.test_calls.proofs.opening.open_and_step.Key.{name as #test-calls·opening·open-and-step}
 use Rattle.test_calls.proofs.opening.open_and_step as this
 use Rattle.test_calls.proofs.opening.open_and_step.Statement as stated

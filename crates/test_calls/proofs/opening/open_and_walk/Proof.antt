@@ -54,7 +54,7 @@ use Rattle.opened.specs.Opening.{opened-bytes, Walk-with-arrival}
 use Rattle.opened.specs.declared.Opened.{Opened}
 use Rattle.opened.proofs.Opened as T
 use Rattle.opened.proofs.Opened.Laws as T′
-use Rattle.opened.proofs.Held.{number-owned, number-stays, number-goes}
+use Rattle.opened.proofs.Held.{number-owned}
 use Rattle.opened.proofs.open_plan as opens
 use Rattle.opened.proofs.open_plan.Symbol as opens-def
 use Rattle.opened.proofs.open_plan.Symbol.{name as #opened·open-plan}
@@ -64,7 +64,7 @@ use Rattle.opened.proofs.Opened.walk.Symbol as walks-def
 use Rattle.opened.proofs.Opened.walk.Symbol.{name as #opened·Opened·walk}
 use Rattle.opened.proofs.Opened.walk.Met as walks-thm
 use Rattle.test_calls.proofs.Seen.{opened-seen}
-use Rattle.test_calls.proofs.Lending.{Opens, Bytes-own, bytes-at, Is-opened, to-opens, lent-to-open, opens-said}
+use Rattle.test_calls.proofs.Lending.{number-stays, number-goes, Opens, Bytes-own, bytes-at, Is-opened, to-opens, lent-to-open, opens-said}
 use Rattle.test_calls.proofs.opening.open_and_walk.Key.{name as #test-calls·opening·open-and-walk}
 use Rattle.test_calls.proofs.opening.open_and_walk as this
 use Rattle.test_calls.proofs.opening.open_and_walk.Statement as stated

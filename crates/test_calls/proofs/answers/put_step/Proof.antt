@@ -2,8 +2,8 @@
 use mathlib.Core.Path.{ap}
 use Rattle.test_calls.specs.Answers.{stepped-in}
 use borrow.Author.Needs.{needs}
-use Rattle.test_calls.proofs.answers.tell_step.Statement.{statement}
-use Rattle.test_calls.proofs.answers.tell_step.Tie as tie
+use Rattle.test_calls.proofs.answers.put_step.Statement.{statement}
+use Rattle.test_calls.proofs.answers.put_step.Tie as tie
 
 slice-aggregate-put-fields : tie.Need-slice-aggregate-put-fields
 slice-aggregate-put-fields c = search needs
@@ -19,6 +19,6 @@ returns c =
     ap (stepped-in (c .before .before .before .before .before .before .args .s .number))
     (c .before .before .put-fields .ensures)
 
-pub tell-step-spec : {M : Type 1} → statement M
-tell-step-spec =
+pub put-step-spec : {M : Type 1} → statement M
+put-step-spec =
     tie.close (tie.spec slice-aggregate-put-fields put-fields-requires same-length returns)

@@ -2,8 +2,8 @@
 use mathlib.Core.Path.{ap}
 use Rattle.test_calls.specs.Answers.{sizes-in}
 use borrow.Author.Needs.{needs}
-use Rattle.test_calls.proofs.answers.tell_sizes.Statement.{statement}
-use Rattle.test_calls.proofs.answers.tell_sizes.Tie as tie
+use Rattle.test_calls.proofs.answers.put_sizes.Statement.{statement}
+use Rattle.test_calls.proofs.answers.put_sizes.Tie as tie
 
 slice-aggregate-put-fields : tie.Need-slice-aggregate-put-fields
 slice-aggregate-put-fields c = search needs
@@ -19,6 +19,6 @@ returns c =
     ap (sizes-in (c .before .before .before .before .before .before .args .s .number))
     (c .before .before .put-fields .ensures)
 
-pub tell-sizes-spec : {M : Type 1} → statement M
-tell-sizes-spec =
+pub put-sizes-spec : {M : Type 1} → statement M
+put-sizes-spec =
     tie.close (tie.spec slice-aggregate-put-fields put-fields-requires same-length returns)

@@ -1,9 +1,9 @@
 -- The fields are read back as they were put. Assumes nothing.
 use mathlib.Core.Path.{ap}
-use Rattle.test_calls.specs.Answers.{answer-in}
+use Rattle.test_calls.specs.Answers.{walked-in}
 use borrow.Author.Needs.{needs}
-use Rattle.test_calls.proofs.answers.tell_answer.Statement.{statement}
-use Rattle.test_calls.proofs.answers.tell_answer.Tie as tie
+use Rattle.test_calls.proofs.answers.put_walk.Statement.{statement}
+use Rattle.test_calls.proofs.answers.put_walk.Tie as tie
 
 slice-aggregate-put-fields : tie.Need-slice-aggregate-put-fields
 slice-aggregate-put-fields c = search needs
@@ -16,9 +16,9 @@ same-length c = search needs
 
 returns : tie.Need-returns
 returns c =
-    ap (answer-in (c .before .before .before .before .before .before .args .a .number))
+    ap (walked-in (c .before .before .before .before .before .before .before .args .w .number))
     (c .before .before .put-fields .ensures)
 
-pub tell-answer-spec : {M : Type 1} → statement M
-tell-answer-spec =
+pub put-walk-spec : {M : Type 1} → statement M
+put-walk-spec =
     tie.close (tie.spec slice-aggregate-put-fields put-fields-requires same-length returns)
