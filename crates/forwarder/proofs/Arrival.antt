@@ -74,8 +74,8 @@ module _ (ps : List ℕ) (a b : ℕ) (t : Traffic) (r : Walked) (old new : List 
           let e = eq-eqb (r .number) 0 z in
           let one : r .arrived ≡ 1 = rw e at (s .arrived) ∙ delivered .0 in
           let few : r .hops ≡ fewest = rw e at (s .hops) ∙ walked-hops in
-          let m : new ≡ walk ps a b .met ++ replicate (256 - length (walk ps a b .met)) 0 = rw e at (s .met) in
-          let left : 256 - length (walk ps a b .met) ≡ 255 - fewest = omega (arith, met-long) in
+          let m : new ≡ walk ps a b .met ++ replicate (lent-met - length (walk ps a b .met)) 0 = rw e at (s .met) in
+          let left : lent-met - length (walk ps a b .met) ≡ lent-met - suc fewest = omega (arith, met-long) in
           record {
             number = z;
             arrived = one;

@@ -82,7 +82,7 @@ pub record Arrived (ps : List ℕ) (a b : ℕ) (t : Traffic) (r : Walked) (new :
   pub frames : r .traffic .frames ≡ suc (t .frames)
   pub total : r .traffic .hops ≡ t .hops + hops (plan-wiring ps) a b
   pub behind : List ℕ
-  pub met : new ≡ a ∷ behind ++ replicate (255 - hops (plan-wiring ps) a b) 0
+  pub met : new ≡ a ∷ behind ++ replicate (lent-met - suc (hops (plan-wiring ps) a b)) 0
   pub path : is-path (plan-wiring ps) a behind b ≡ true
   pub long : length behind ≡ hops (plan-wiring ps) a b
 

@@ -108,19 +108,19 @@ module _ (ps : List ℕ) (a b r : ℕ) (met met-now rec rec-now : List ℕ) (s :
         subst (λ (x : List ℕ). Reads x 1 fewest (suc (t .frames)) (t .hops + fewest)) (sym is)
         (record-reads 1 fewest (suc (t .frames)) (t .hops + fewest) (omega arith) (omega (arith, few)) (omega (arith, take .0)) (omega (arith, take .1)))
 
-    cards-are : cards ≡ a ∷ g .behind ++ replicate (255 - fewest) 0
+    cards-are : cards ≡ a ∷ g .behind ++ replicate (lent-met - suc fewest) 0
     cards-are = rw e at (g .met)
 
     card-below : (i : ℕ) → i < lent-met → getD cards i 0 < 65536
     card-below i h =
         let m = read-measured ps (f .read) in
-        let below = padded-below (plan-wiring ps .cards) (a ∷ g .behind) (255 - fewest) (omega (arith, wiring-at-cards 6 ps, f .from))
+        let below = padded-below (plan-wiring ps .cards) (a ∷ g .behind) (lent-met - suc fewest) (omega (arith, wiring-at-cards 6 ps, f .from))
         (path-below (plan-wiring ps) (g .behind) a b (omega (arith, wiring-at-cards 6 ps, f .from)) (g .path)) i
         in
         rw cards-are (omega (arith, below, wiring-at-cards 6 ps, layout-facts ps (m .layout) .few))
 
     cards-long : length cards ≡ lent-met
-    cards-long = ap length cards-are ∙ omega (arith, few, g .long, length-append (g .behind) (replicate (255 - fewest) 0), length-replicate {A = ℕ} (255 - fewest) 0)
+    cards-long = ap length cards-are ∙ omega (arith, few, g .long, length-append (g .behind) (replicate (lent-met - suc fewest) 0), length-replicate {A = ℕ} (lent-met - suc fewest) 0)
 
     c-arrived : Arrived ps a b t (walked-in r rec-now) (cards-in met-now)
     unfolding walked-in counts-in met-bytes

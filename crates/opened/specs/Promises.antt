@@ -9,7 +9,7 @@ use Rattle.rack.specs.Hops.{hops}
 use Rattle.rack.specs.PlanFile.{plan-cards, plan-links, plan-columns, plan-wiring}
 use Rattle.reader.specs.Plan.{layout-holds, plan-refusal}
 use Rattle.reader.specs.Reading.{address-part, address-refusal, Slice-is, Address-says}
-use Rattle.forwarder.specs.Calls.{step-refusal, walk-refusal, Frame, Arrived, Can-take}
+use Rattle.forwarder.specs.Calls.{step-refusal, lent-met, walk-refusal, Frame, Arrived, Can-take}
 use Rattle.forwarder.specs.declared.walk.Traffic.{Traffic}
 use Rattle.forwarder.specs.declared.walk.Walked.{Walked}
 use Rattle.opened.specs.Opening.{carries, opened-bytes, Opening-says, Walk-with-arrival}
@@ -44,7 +44,7 @@ pub record Twelve-in-every-call (ps : List ℕ) : Type 0 where
   pub address : (c : ℕ) → address-refusal ps c ≡ 12
   pub part : (c : ℕ) → address-part ps c ≡ []
   pub step : (a b : ℕ) → step-refusal ps a b ≡ 12
-  pub walk : (a b : ℕ) (t : Traffic) → walk-refusal ps a b t 256 ≡ 12
+  pub walk : (a b : ℕ) (t : Traffic) → walk-refusal ps a b t lent-met ≡ 12
 
 -- a refused opening, and sizes that differ from those in the bytes
 unfoldable pub Refused-opening : Type 0

@@ -12,7 +12,7 @@ use Rattle.rack.specs.Columns.{column-count, address}
 use Rattle.planner.specs.PlanBytes.{plan-bytes}
 use Rattle.reader.specs.Plan.{plan-refusal}
 use Rattle.forwarder.specs.Forwarding.{step, walk}
-use Rattle.forwarder.specs.Calls.{walk-hops, walk-refusal}
+use Rattle.forwarder.specs.Calls.{lent-met, walk-hops, walk-refusal}
 use Rattle.text.specs.Codes.{codes}
 use Rattle.listing_text.specs.Listing.{column-digit, listing}
 
@@ -63,7 +63,7 @@ claim-holds bs ps (walks a b hops met) =
     let v = walk ps a b in
     eqb (v .arrived) 1 && eqb (walk-hops v) hops && same eqb (v .met) met
 claim-holds bs ps (stuck a b) = eqb (step ps a b .outcome) 0
-claim-holds bs ps (walk-answers a b f h n) = eqb (walk-refusal ps a b (record { frames = f; hops = h }) 256) n
+claim-holds bs ps (walk-answers a b f h n) = eqb (walk-refusal ps a b (record { frames = f; hops = h }) lent-met) n
 
 -- ROWS: a name, a wiring file, a plan file, and claims of the two
 pub data Case : Type 0 where
