@@ -6,6 +6,7 @@ mod measured;
 #[allow(dead_code)]
 #[path = "../tests/racks/mod.rs"]
 mod racks;
+#[allow(dead_code)]
 #[path = "../tests/second/mod.rs"]
 mod second;
 mod times;

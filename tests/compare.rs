@@ -8,6 +8,7 @@ mod faults;
 mod named;
 mod properties;
 mod racks;
+#[allow(dead_code)]
 mod second;
 
 use both::{Both, Call, Lengths};

@@ -1,6 +1,7 @@
 //! What the calls of libtest_calls.a mean, by the rules alone, over the second implementation.
 
 use crate::inner_both::{Call, Kind, Lents, Name};
+use crate::second::listing::listing;
 use crate::second::planner::{all_hops, plan};
 use crate::second::plans::Layout;
 
@@ -87,41 +88,6 @@ fn listing_text(call: &Call, file: &[u8], lent: &mut Lents) -> u32 {
     text[..listing.len()].copy_from_slice(listing.as_bytes());
     put(lent, &[0, listing.len()]);
     0
-}
-
-fn listing(file: &[u8]) -> String {
-    let planned = match plan(file) {
-        Ok(planned) => planned,
-        Err(refusal) => {
-            let (number, at) = (refusal.number, refusal.at);
-            return match number {
-                6 | 7 | 8 | 10 => format!("refused {number} link {at}\n"),
-                9 => format!("refused 9 card {at}\n"),
-                _ => format!("refused {number}\n"),
-            };
-        }
-    };
-    let (n, m, k) = (
-        planned.wiring.cards,
-        planned.wiring.links.len(),
-        planned.columns,
-    );
-    let mut text = format!("cards {n}\nlinks {m}\ncolumns {k}\n");
-    for (card, address) in planned.addresses.iter().enumerate() {
-        text += &format!("card {card} ");
-        if k == 0 {
-            text.push('-');
-        }
-        text.extend((0..k).map(|j| {
-            if address[j / 64] >> (j % 64) & 1 == 1 {
-                '1'
-            } else {
-                '0'
-            }
-        }));
-        text.push('\n');
-    }
-    text
 }
 
 fn read(plan: &[u8], lent: &mut Lents) -> u32 {
