@@ -14,7 +14,7 @@ use Rattle.rack.specs.Columns.{column, hamming}
 use Rattle.rack.specs.WiringFile.{file-wiring}
 use Rattle.rack.proofs.Logic.{by-bool, not-true-false}
 use Rattle.rack.proofs.WiringFile.{wiring-at-cards, wiring-at-count}
-use Rattle.survey.specs.Formed.{Formed}
+use Rattle.rack.specs.Formed.{Formed}
 use Rattle.survey.specs.Tables.{Hops-in}
 use Rattle.planner.specs.OpenColumns.{bit-in, separated, open-column, open-columns, columns-opened, Words-of, Columns-opened, Column-added, words-hamming}
 use Rattle.planner.proofs.AddressWords.{words-hamming-columns, separated-hamming, unseparated-hamming, zero-words}

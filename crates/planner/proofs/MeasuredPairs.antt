@@ -15,7 +15,7 @@ use Rattle.rack.proofs.Hamming.{hamming-same, hamming-sym}
 use Rattle.rack.proofs.Crossing.{Rack}
 use Rattle.rack.proofs.Uniqueness.{addresses-embed}
 use Rattle.rack.proofs.FewColumns.{few-columns}
-use Rattle.survey.specs.Formed.{Formed}
+use Rattle.rack.specs.Formed.{Formed}
 use Rattle.survey.specs.Tables.{cell, Hops-in}
 use Rattle.survey.proofs.Forms.{formed-cards, formed-count, formed-rack}
 use Rattle.planner.specs.Stages.{Addressed}

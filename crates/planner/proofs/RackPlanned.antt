@@ -13,7 +13,8 @@ use Rattle.rack.specs.Refusals.{Refusal, refusal, links-refusal, reach-refusal,
 use Rattle.rack.specs.Buffers.{number-at}
 use Rattle.rack.specs.WiringFile.{file-wiring, sizes-fault, file-refusal}
 use Rattle.rack.proofs.Acceptance.{reach-clear}
-use Rattle.survey.specs.Formed.{Refused-is, Formed}
+use Rattle.rack.specs.Formed.{Formed}
+use Rattle.survey.specs.Refusing.{Refused-is}
 use Rattle.survey.specs.Tables.{Hops-in}
 use Rattle.planner.specs.OpenColumns.{Words-of}
 use Rattle.planner.specs.Stages.{Addressed, Rack-planned, File-planned}

@@ -21,7 +21,7 @@ use Rattle.rack.proofs.Accepted.{wiring-accepted, file-clear}
 use Rattle.rack.proofs.WiringFile.{sized-clear, wiring-at-cards, wiring-at-count, wiring-at-link}
 use Rattle.rack.specs.PlanFile.{address-size}
 use Rattle.planner.specs.PlanBytes.{address-bytes, plan-bytes}
-use Rattle.survey.specs.Formed.{Sizes-are}
+use Rattle.rack.specs.Formed.{Sizes-are}
 use Rattle.planner.specs.OpenColumns.{bit-in, Words-of}
 use Rattle.planner.specs.Stages.{File-planned}
 use Rattle.rack.specs.Limits.{lent-plan, most-columns}

@@ -12,7 +12,7 @@ use Rattle.rack.proofs.Tables.{length-tabulate, length-blocks}
 use Rattle.rack.proofs.WiringFile.{length-two-bytes}
 use Rattle.rack.specs.Limits.{lent-plan, most-cards}
 use Rattle.rack.specs.PlanFile.{address-size, addresses-start}
-use Rattle.survey.specs.Formed.{Sizes-are}
+use Rattle.rack.specs.Formed.{Sizes-are}
 use Rattle.planner.specs.Writing.{end-pair, word-byte, written-bytes}
 
 -- THE ADDRESSES of cards, one after another

@@ -6,7 +6,7 @@ ghost use Rattle.rack.specs.Limits.{lent-hops, lent-words, most-cards, most-col
 ghost use Rattle.rack.specs.Lists.{one};
 ghost use Rattle.rack.specs.Ones.{Counts};
 ghost use Rattle.rack.specs.WiringFile.{file-wiring};
-ghost use Rattle.survey.specs.Formed.{Formed};
+ghost use Rattle.rack.specs.Formed.{Formed};
 ghost use Rattle.survey.specs.Tables.{Hops-in};
 ghost use Rattle.planner.specs.OpenColumns.{Column-added, Columns-opened, part-hamming, side-in, words-hamming};
 use rack::bytes::first_end;

@@ -8,6 +8,7 @@ pub mod Hops
 pub mod Columns
 pub mod Refusals
 pub mod WiringFile
+pub mod Formed
 pub mod PlanFile
 pub mod Embeddings
 pub mod Promises

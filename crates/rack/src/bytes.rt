@@ -6,6 +6,13 @@ ghost use Rattle.rack.specs.Wiring.{link-at};
 ghost use Rattle.rack.specs.Buffers.{Appends, four-bytes, number-at, number32-at, two-bytes};
 ghost use Rattle.rack.specs.WiringFile.{wiring-at};
 
+// A number of 16 bits as a place.
+pub fn wide(x: u16) -> usize
+    ensures { λ r. ⌜ r ≡ x ⌝ }
+{
+    x as usize
+}
+
 // The number of 16 bits at a place, low byte first.
 pub fn number_at(bytes: &[u8], at: usize) -> usize
     requires { ⌜ at + 1 < length (now bytes) ⌝ }

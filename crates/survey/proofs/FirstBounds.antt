@@ -15,7 +15,7 @@ use Rattle.rack.specs.Hops.{hops, connected}
 use Rattle.rack.specs.WiringFile.{file-wiring}
 use Rattle.rack.proofs.Logic.{by-eq, by-lt}
 use Rattle.rack.proofs.Hops.{hops-self, connected-all}
-use Rattle.survey.specs.Formed.{Formed}
+use Rattle.rack.specs.Formed.{Formed}
 use Rattle.survey.specs.Tables.{cell}
 use Rattle.survey.specs.Lowering.{Above, Row-filled, Started, row-bound, place-bound, first-bound}
 use Rattle.survey.proofs.Forms.{formed-cards, formed-few}

@@ -21,7 +21,7 @@ use Rattle.rack.proofs.Lists.{In, in-getD, getD-in, count-le-length, count-more
 use Rattle.rack.proofs.Tables.{length-tabulate, in-range, distinct-range, lowest-is}
 use Rattle.rack.proofs.Paths.{Ends, Changes, linked-link, link-joins, linked-sym, path-one, path-join, path-changes}
 use Rattle.rack.proofs.Hops.{hops-le, hops-path, path-below, hops-self, zero-connected}
-use Rattle.survey.specs.Formed.{Sizes-are, Formed}
+use Rattle.rack.specs.Formed.{Sizes-are, Formed}
 use Rattle.survey.specs.Flags.{flags, Flagged, Spread, Reached}
 use Rattle.rack.proofs.Zeros.{zeros-long, zeros-at}
 use Rattle.survey.proofs.Forms.{cards-are, links-are}

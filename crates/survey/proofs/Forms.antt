@@ -18,7 +18,8 @@ use Rattle.rack.proofs.Paths.{link-joins}
 use Rattle.rack.proofs.Crossing.{Rack}
 use Rattle.rack.proofs.Refusals.{Joins-cards, joined-rack, lowest-fault-clear, link-fault-clear}
 use Rattle.rack.proofs.WiringFile.{Sized, sizes-clear, wiring-at-cards, wiring-at-count}
-use Rattle.survey.specs.Formed.{Refused-is, Sizes-are, Formed}
+use Rattle.rack.specs.Formed.{Sizes-are, Formed}
+use Rattle.survey.specs.Refusing.{Refused-is}
 use Rattle.survey.specs.declared.links.Refused.{Refused}
 
 -- 2 TO 5, each where the tests before it pass

@@ -13,7 +13,7 @@ use Rattle.rack.specs.Hops.{hops}
 use Rattle.rack.specs.WiringFile.{file-wiring}
 use Rattle.rack.specs.Refusals.{refusal, parity-refusal}
 use Rattle.rack.proofs.Refusals.{lowest-fault-none, lowest-fault-is}
-use Rattle.survey.specs.Formed.{Formed}
+use Rattle.rack.specs.Formed.{Formed}
 use Rattle.survey.specs.Tables.{Hops-in}
 use Rattle.survey.proofs.Forms.{formed-count, formed-first, formed-second}
 

@@ -12,7 +12,7 @@ use Rattle.rack.proofs.Logic.{by-lt}
 use Rattle.rack.proofs.Lists.{In, getD-in}
 use Rattle.rack.proofs.Paths.{Ends, linked-link, linked-sym, path-next, path-zero}
 use Rattle.rack.proofs.Hops.{hops-path, hops-triangle, hops-linked}
-use Rattle.survey.specs.Formed.{Formed}
+use Rattle.rack.specs.Formed.{Formed}
 use Rattle.survey.specs.Tables.{cell, Hops-in}
 use Rattle.survey.specs.Lowering.{Lowered, Above, Tight, Passed, Swept}
 use Rattle.survey.proofs.Rows.{lowered-above}

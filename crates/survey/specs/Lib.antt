@@ -1,4 +1,4 @@
-pub mod Formed
+pub mod Refusing
 pub mod Tables
 pub mod Marks
 pub mod Flags

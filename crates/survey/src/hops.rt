@@ -7,13 +7,14 @@ ghost use Rattle.rack.specs.Limits.{lent-hops, most-cards};
 ghost use Rattle.rack.specs.Hops.{connected};
 ghost use Rattle.rack.specs.WiringFile.{file-wiring};
 ghost use Rattle.rack.specs.Refusals.{parity-refusal};
-ghost use Rattle.survey.specs.Formed.{Refused-is, Formed};
+ghost use Rattle.rack.specs.Formed.{Formed};
+ghost use Rattle.survey.specs.Refusing.{Refused-is};
 ghost use Rattle.survey.specs.Tables.{Hops-in};
 ghost use Rattle.survey.specs.Lowering.{Above, Lowered, Passed, Row-filled, Started, Swept, place-bound, row-bound};
 use crate::links::Refused;
-use crate::order::wide;
 use rack::bytes::first_end;
 use rack::bytes::second_end;
+use rack::bytes::wide;
 use rack::limits::MOST_CARDS;
 use rack::limits::MOST_LINKS;
 

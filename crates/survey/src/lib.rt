@@ -12,5 +12,4 @@
 // equal hops closes an odd loop, and without such a link there is none (König).
 pub mod hops;
 pub mod links;
-pub mod order;
 pub mod reach;

@@ -6,12 +6,13 @@ ghost use Rattle.rack.specs.Wiring.{Wiring};
 ghost use lib.ListN.{length, replicate};
 ghost use Rattle.rack.specs.WiringFile.{file-wiring};
 ghost use Rattle.rack.specs.Refusals.{reach-refusal};
-ghost use Rattle.survey.specs.Formed.{Refused-is, Formed};
+ghost use Rattle.rack.specs.Formed.{Formed};
+ghost use Rattle.survey.specs.Refusing.{Refused-is};
 ghost use Rattle.survey.specs.Flags.{Flagged, Reached, Spread};
 use crate::links::Refused;
-use crate::order::wide;
 use rack::bytes::first_end;
 use rack::bytes::second_end;
+use rack::bytes::wide;
 use rack::limits::MOST_LINKS;
 
 // Flags the other end of link `i` where just one end is flagged; gives how many flags are new.

@@ -1,20 +1,13 @@
--- What a stage knows of a file that passed the stage before. Assumes nothing: these are definitions.
+-- What is known of a file that passed 2 to 5, and of one that passed 6 and 7. Assumes nothing: these are definitions.
 use mathlib.Core.Path.{_≡_}
 use mathlib.Core.Logic.{_≢_}
 use mathlib.Core.List.{List}
 use Prim.Native.Nat.{ℕ, _+_, _*_, _≤_, _<_}
 use lib.ListN.{length}
-use Rattle.rack.specs.Wiring.{link-at}
 use Rattle.rack.specs.Limits.{most-cards, most-links}
 use Rattle.rack.specs.Buffers.{number-at}
+use Rattle.rack.specs.Wiring.{link-at}
 use Rattle.rack.specs.WiringFile.{file-wiring}
-use Rattle.rack.specs.Refusals.{Refusal}
-use Rattle.survey.specs.declared.links.Refused.{Refused}
-
--- what was said is a refusal of the definitions
-pub record Refused-is (r : Refused) (f : Refusal) : Type 0 where
-  pub number : r .number ≡ f .number
-  pub at : r .at ≡ f .at
 
 -- n cards and m links in a file that passed 2 to 5
 pub record Sizes-are (bs : List ℕ) (n m : ℕ) : Type 0 where

@@ -2,8 +2,8 @@
 use native.Mathlib.Omega.{arith}
 use Prim.Native.Nat.{_≤_, _-_}
 use borrow.Author.Needs.{needs}
-use Rattle.survey.proofs.order.meet_cards.Statement.{statement}
-use Rattle.survey.proofs.order.meet_cards.Tie as tie
+use Rattle.link_order.proofs.meet_cards.Statement.{statement}
+use Rattle.link_order.proofs.meet_cards.Tie as tie
 
 abbrev Inv-loop : tie.InvT-loop
 Inv-loop starts list c met₀ queue₀ queued last length₀ k₀ met queue length k = (k ≤ 4096) × (length ≤ 256)

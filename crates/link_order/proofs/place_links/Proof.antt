@@ -2,8 +2,8 @@
 use native.Mathlib.Omega.{arith}
 use Prim.Native.Nat.{_≤_, _-_}
 use borrow.Author.Needs.{needs}
-use Rattle.survey.proofs.order.place_links.Statement.{statement}
-use Rattle.survey.proofs.order.place_links.Tie as tie
+use Rattle.link_order.proofs.place_links.Statement.{statement}
+use Rattle.link_order.proofs.place_links.Tie as tie
 
 abbrev Inv-loop : tie.InvT-loop
 Inv-loop starts list c placed₀ order₀ ordered last length₀ k₀ placed order length k = (k ≤ 4096) × (length ≤ 2048)

@@ -2,8 +2,8 @@
 use native.Mathlib.Omega.{arith}
 use Prim.Native.Nat.{_≤_, _-_}
 use borrow.Author.Needs.{needs}
-use Rattle.survey.proofs.order.walk_links.Statement.{statement}
-use Rattle.survey.proofs.order.walk_links.Tie as tie
+use Rattle.link_order.proofs.walk_links.Statement.{statement}
+use Rattle.link_order.proofs.walk_links.Tie as tie
 
 abbrev Inv-loop : tie.InvT-loop
 Inv-loop starts list met₀ queue₀ placed₀ order₀ queued₀ ordered₀ head₀ met queue placed order queued ordered head = (queued ≤ 256) × (ordered ≤ 2048) × (head ≤ 256)
