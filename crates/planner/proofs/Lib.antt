@@ -10,7 +10,6 @@ pub mod RackPlanned
 pub mod PlanAnswer
 pub mod Found
 pub mod PlanPromise
-pub mod WrittenPlan
 pub mod WriteAnswer
 pub mod WritePromise
 pub mod Promises

@@ -26,7 +26,7 @@ use Rattle.planner.specs.OpenColumns.{bit-in, Words-of}
 use Rattle.planner.specs.Stages.{File-planned}
 use Rattle.rack.specs.Limits.{lent-plan, most-columns}
 use Rattle.planner.specs.Planning.{writing-refusal, Refuses, Write-says}
-use Rattle.planner.specs.Writing.{end-pair, word-byte, written-bytes}
+use Rattle.plan_writer.specs.Writing.{end-pair, word-byte, written-bytes}
 use Rattle.planner.specs.declared.Answer.{Answer}
 use Rattle.planner.proofs.Answers.{refusal-of-rack}
 use Rattle.planner.proofs.PlanAnswer.{file-not-one, left-untouched, left-filled, left-zero, accepted-columns}

@@ -3,5 +3,4 @@ pub mod Words
 pub mod OpenColumns
 pub mod Stages
 pub mod Planning
-pub mod Writing
 pub mod Promises

@@ -23,6 +23,7 @@ ghost use Rattle.planner.specs.Planning.{Addresses-found, Asked, Asked-t
 use columns::open_columns;
 use link_order::link_order;
 use pairs::pairs_measure;
+use plan_writer::put_plan;
 use rack::bytes::number_at;
 use rack::fill::clear_bytes;
 use rack::fill::clear_words;
@@ -35,11 +36,9 @@ use survey::hops::parity_refusal;
 use survey::links::links_refusal;
 use survey::links::sizes_fault;
 use survey::reach::reach_refusal;
-use write::put_plan;
 
 pub mod columns;
 pub mod pairs;
-pub mod write;
 
 // A refusal's number, 0 for none, the link or card that it carries, and with 0 a value.
 pub struct Answer {

@@ -6,7 +6,7 @@ ghost use Rattle.rack.specs.Limits.{lent-plan, lent-words, most-cards, most-col
 ghost use Rattle.rack.specs.Lists.{tabulate, blocks};
 ghost use Rattle.rack.specs.Buffers.{two-bytes, Appends, Written};
 ghost use Rattle.rack.specs.Formed.{Sizes-are};
-ghost use Rattle.planner.specs.Writing.{end-pair, word-byte, written-bytes};
+ghost use Rattle.plan_writer.specs.Writing.{end-pair, word-byte, written-bytes};
 ghost use mathlib.Core.List.{_++_};
 use rack::bytes::number_at;
 use rack::bytes::put_number;

@@ -4,10 +4,10 @@ use lib.ListN.{length, length-replicate}
 use Prim.Native.Nat.{ℕ}
 use native.Mathlib.Omega.{arith}
 use Rattle.rack.specs.Limits.{lent-plan}
-use Rattle.planner.proofs.WrittenPlan.{addresses-room, plan-written, plan-length}
+use Rattle.plan_writer.proofs.WrittenPlan.{addresses-room, plan-written, plan-length}
 use borrow.Author.Needs.{needs}
-use Rattle.planner.proofs.write.put_plan.Statement.{statement}
-use Rattle.planner.proofs.write.put_plan.Tie as tie
+use Rattle.plan_writer.proofs.put_plan.Statement.{statement}
+use Rattle.plan_writer.proofs.put_plan.Tie as tie
 
 address-size-requires : tie.Need-address-size-requires
 address-size-requires c κs = search needs

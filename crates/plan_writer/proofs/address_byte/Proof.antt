@@ -1,9 +1,9 @@
 -- A shift by 8 s and the remainder by 256 take byte s out of the word. Assumes nothing.
 use mathlib.Core.Path.{refl}
-use Rattle.planner.specs.Writing.{word-byte}
+use Rattle.plan_writer.specs.Writing.{word-byte}
 use borrow.Author.Needs.{needs}
-use Rattle.planner.proofs.write.address_byte.Statement.{statement}
-use Rattle.planner.proofs.write.address_byte.Tie as tie
+use Rattle.plan_writer.proofs.address_byte.Statement.{statement}
+use Rattle.plan_writer.proofs.address_byte.Tie as tie
 
 mul-result : tie.Need-mul-result
 mul-result c = search needs

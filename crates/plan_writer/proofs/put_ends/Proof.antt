@@ -5,10 +5,10 @@ use native.Mathlib.Omega.{arith}
 use Rattle.rack.specs.Lists.{blocks}
 use Rattle.rack.specs.Buffers.{two-bytes, number-at, Appends}
 use Rattle.rack.proofs.WiringFile.{length-two-bytes}
-use Rattle.planner.specs.Writing.{end-pair}
+use Rattle.plan_writer.specs.Writing.{end-pair}
 use Rattle.rack.proofs.Appending.{Appended, appended-none, appended-block}
-use Rattle.planner.proofs.write.put_ends.Statement.{statement}
-use Rattle.planner.proofs.write.put_ends.Tie as tie
+use Rattle.plan_writer.proofs.put_ends.Statement.{statement}
+use Rattle.plan_writer.proofs.put_ends.Tie as tie
 
 abbrev Inv-loop : tie.InvT-loop
 Inv-loop file count output₀ i₀ output i = (i ≤ count) × Appended 6 output₀ output (blocks i (end-pair file))

@@ -1,8 +1,8 @@
 -- One number is appended after the other. Assumes nothing.
-use Rattle.planner.proofs.WrittenPlan.{sizes-appended}
+use Rattle.plan_writer.proofs.WrittenPlan.{sizes-appended}
 use borrow.Author.Needs.{needs}
-use Rattle.planner.proofs.write.put_sizes.Statement.{statement}
-use Rattle.planner.proofs.write.put_sizes.Tie as tie
+use Rattle.plan_writer.proofs.put_sizes.Statement.{statement}
+use Rattle.plan_writer.proofs.put_sizes.Tie as tie
 
 put-number-requires : tie.Need-put-number-requires
 put-number-requires c κs = search needs

@@ -1,15 +1,15 @@
 -- The addresses of the first c cards are appended. Assumes nothing.
 use Rattle.rack.proofs.Appending.{appended-block, Appended, appended-none}
-use Rattle.planner.proofs.WrittenPlan.{address-room, address-inside}
+use Rattle.plan_writer.proofs.WrittenPlan.{address-room, address-inside}
 use mathlib.Core.Path.{_≡_, subst}
 use Prim.Native.Nat.{ℕ, _-_, _≤_}
 use native.Mathlib.Omega.{arith}
 use Rattle.rack.specs.Lists.{tabulate, blocks}
 use Rattle.rack.proofs.Tables.{length-tabulate}
 use Rattle.rack.specs.Buffers.{Appends}
-use Rattle.planner.specs.Writing.{word-byte}
-use Rattle.planner.proofs.write.put_addresses.Statement.{statement}
-use Rattle.planner.proofs.write.put_addresses.Tie as tie
+use Rattle.plan_writer.specs.Writing.{word-byte}
+use Rattle.plan_writer.proofs.put_addresses.Statement.{statement}
+use Rattle.plan_writer.proofs.put_addresses.Tie as tie
 
 abbrev Inv-loop : tie.InvT-loop
 Inv-loop words n size output₀ at c₀ output c = (c ≤ n) × Appended at output₀ output (blocks c (λ i. tabulate size (word-byte words i)))

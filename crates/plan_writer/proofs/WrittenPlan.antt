@@ -13,7 +13,7 @@ use Rattle.rack.proofs.WiringFile.{length-two-bytes}
 use Rattle.rack.specs.Limits.{lent-plan, most-cards}
 use Rattle.rack.specs.PlanFile.{address-size, addresses-start}
 use Rattle.rack.specs.Formed.{Sizes-are}
-use Rattle.planner.specs.Writing.{end-pair, word-byte, written-bytes}
+use Rattle.plan_writer.specs.Writing.{end-pair, word-byte, written-bytes}
 
 -- THE ADDRESSES of cards, one after another
 pub address-room : (c n size : ℕ) → c < n → c * size + size ≤ n * size

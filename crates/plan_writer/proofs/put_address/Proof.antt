@@ -8,10 +8,10 @@ use native.Mathlib.Omega.{arith}
 use mathlib.Core.Path.{ap, _∙_}
 use Rattle.rack.specs.Lists.{tabulate}
 use Rattle.rack.proofs.Tables.{length-tabulate, tabulate-snoc}
-use Rattle.planner.specs.Writing.{word-byte}
+use Rattle.plan_writer.specs.Writing.{word-byte}
 use Rattle.rack.proofs.Appending.{Appended, appended-none, appended-byte}
-use Rattle.planner.proofs.write.put_address.Statement.{statement}
-use Rattle.planner.proofs.write.put_address.Tie as tie
+use Rattle.plan_writer.proofs.put_address.Statement.{statement}
+use Rattle.plan_writer.proofs.put_address.Tie as tie
 
 abbrev Inv-loop : tie.InvT-loop
 Inv-loop words c size output₀ at t₀ output t = (t ≤ size) × Appended at output₀ output (tabulate t (word-byte words c))
