@@ -9,7 +9,6 @@ use lib.Dec.{eqb}
 use lib.ListN.{length}
 use borrow.Author.Tests.{eq-eqb, ne-eqb}
 use Rattle.rack.specs.Limits.{lent-plan}
-use Rattle.rack.specs.Refusals.{Refusal}
 use Rattle.rack.specs.WiringFile.{file-wiring, file-refusal}
 use Rattle.rack.specs.PlanFile.{plan-columns, plan-bit}
 use Rattle.rack.proofs.Logic.{by-eq}
@@ -18,7 +17,6 @@ use Rattle.planner.specs.PlanBytes.{plan-bytes}
 use Rattle.planner.specs.Planning.{writing-refusal, Write-says, Found}
 use Rattle.planner.specs.declared.Answer.{Answer}
 use Rattle.planner.proofs.WritePromise.{plan-found}
-use Rattle.reader.specs.Plan.{plan-refusal}
 use Rattle.reader.specs.Promises.{Measured}
 use Rattle.reader.proofs.Promises.{read-measured}
 use Rattle.jolvente.specs.Records.{lent-record}

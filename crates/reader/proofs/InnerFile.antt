@@ -77,7 +77,8 @@ module _ (ps : List ℕ) (z : Layout ps) where
   inner-refusal = rw (or-else-second (refusal (sizes-fault (inner-file ps)) 0) (links-refusal (file-wiring (inner-file ps))) inner-sizes, inner-wiring) refl
 
 -- copied into a buffer of zeros, piece after piece
-pub inner-copied : (ps : List ℕ) (ends : ℕ) (o₀ o₁ o₂ : List ℕ) → 6 + ends ≤ length ps → o₀ ≡ replicate (4 + 4 * most-links) 0 → Appends 0 o₀ o₁ (take 4 (drop 0 ps)) → Appends 4 o₁ o₂ (take ends (drop 6 ps))
+pub inner-copied : (ps : List ℕ) (ends : ℕ) (o₀ o₁ o₂ : List ℕ) → 6 + ends ≤ length ps → o₀ ≡ replicate (4 + 4 * most-links) 0
+    → Appends 0 o₀ o₁ (take 4 (drop 0 ps)) → Appends 4 o₁ o₂ (take ends (drop 6 ps))
     → take (4 + ends) o₂ ≡ take 4 (drop 0 ps) ++ take ends (drop 6 ps)
 inner-copied ps ends o₀ o₁ o₂ h e a b =
     let head = length-part 0 4 ps (omega arith) in
