@@ -74,7 +74,7 @@ pub record Frame (ps : List ℕ) (a b : ℕ) (old : List ℕ) : Type 0 where
   pub goal : b < plan-cards ps
   pub room : length old ≡ lent-met
 
--- it arrives by the fewest links (demand 3): the answer, the counts, the cards met with zeros behind them
+-- it arrives by the fewest links (demand 3, docs/REQUIREMENTS.md): the answer, the counts, the cards met with zeros behind them
 pub record Arrived (ps : List ℕ) (a b : ℕ) (t : Traffic) (r : Walked) (new : List ℕ) : Type 0 where
   pub number : r .number ≡ 0
   pub arrived : r .arrived ≡ 1

@@ -32,8 +32,8 @@ pub record C-write-says (bs : List ℕ) (r : ℕ) (plan plan-now rec rec-now : L
   pub record-left : rec-now
       ≡ left-in (c-write-refusal bs (length plan) (length rec) .number) (record-bytes (length (plan-bytes (file-wiring bs))) 0 0 0) rec
 
--- DEMANDS 2 AND 3 of the writer are said of the number that it returns and of the bits in the plan that it leaves. Where they are:
--- a well-formed, connected wiring, and lent bytes of their lengths
+-- DEMANDS 2 AND 3 (docs/REQUIREMENTS.md) of the writer are said of the number that it returns and of the bits in the plan that it
+-- leaves. Where they are: a well-formed, connected wiring, and lent bytes of their lengths
 pub record C-asked (bs plan rec : List ℕ) : Type 0 where
   pub room : length plan ≡ lent-plan
   pub record-room : length rec ≡ lent-record

@@ -15,7 +15,7 @@ use Rattle.forwarder.specs.Calls.{most-traffic, Arrived}
 use Rattle.jolvente.specs.Records.{lent-record, lent-met-bytes, cards-in, counts-in, walked-in}
 use Rattle.jolvente.specs.CCalls.{C-write-says, C-found, C-read-says, C-walk-says, C-full}
 
--- demands 2 and 3 of the writer: `C-asked` has no condition besides these
+-- demands 2 and 3 (docs/REQUIREMENTS.md) of the writer: `C-asked` has no condition besides these
 unfoldable pub C-writing-finds : Type 0
 C-writing-finds =
     (bs : List ℕ) (r : ℕ) (plan plan-now rec rec-now : List ℕ) → C-write-says bs r plan plan-now rec rec-now →

@@ -32,8 +32,8 @@ fn each_case(text: &[u8]) {
     }
 }
 
-// Racks by rules: rule, cards, links, mixed or not, and a walk from one card to another. The first three are document 01's outside its
-// proved table.
+// Racks by rules: rule, cards, links, mixed or not, and a walk from one card to another. The first three are those that
+// docs/REQUIREMENTS.md names outside its table of cases.
 pub fn racks() {
     each_case(
         b"

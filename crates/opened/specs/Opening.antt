@@ -41,7 +41,7 @@ pub record Read-with-promise (ps : List ℕ) (r : Sizes) : Type 0 where
   pub says : Read-says ps r
   pub promise : r .number ≡ 0 → Measured ps
 
--- a walk, with demand 3: a frame that the counts can take arrives by the fewest links, and any other is 15
+-- a walk, with demand 3 (docs/REQUIREMENTS.md): a frame that the counts can take arrives by the fewest links, and any other is 15
 pub record Walk-with-arrival (ps : List ℕ) (a b : ℕ) (t : Traffic) (r : Walked) (old new : List ℕ) : Type 0 where
   pub says : Walk-says ps a b t r old new
   pub arrives : Frame ps a b old → Can-take t (hops (plan-wiring ps) a b) → Arrived ps a b t r new

@@ -1,4 +1,4 @@
--- What is promised of an opened plan. Each statement is proved in proofs/Promises.antt under its name.
+-- What is promised of an opened plan. Each statement is proved in proofs/Promises.antt under its name. Demand 3 and quotations: docs/REQUIREMENTS.md.
 use mathlib.Core.Path.{_≡_}
 use mathlib.Core.Bool.{true}
 use mathlib.Core.List.{List, []}

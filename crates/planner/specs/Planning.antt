@@ -66,7 +66,7 @@ pub record Write-says (bs : List ℕ) (r : Answer) (output output-now : List ℕ
   pub answer : Answer-is (writing-refusal bs (length output)) (length (plan-bytes (file-wiring bs))) r
   pub output-left : output-now ≡ left-in (r .number) (plan-bytes (file-wiring bs)) output
 
--- when demand 3 speaks of planning, and of plan writing: a well-formed, connected wiring, and lent buffers of their lengths
+-- when demand 3 (docs/REQUIREMENTS.md) speaks of planning, and of plan writing: a well-formed, connected wiring, and lent buffers of their lengths
 pub record Asked (bs words hop-bytes : List ℕ) : Type 0 where
   pub room : length words ≡ lent-words
   pub hop-room : length hop-bytes ≡ lent-hops

@@ -1,5 +1,5 @@
 -- What is promised of planning and plan writing, with every condition written out. Each statement is proved in proofs/Promises.antt
--- under its name.
+-- under its name. Demands and quotations: docs/REQUIREMENTS.md.
 use mathlib.Core.Path.{_≡_}
 use mathlib.Core.Bool.{true}
 use mathlib.Core.List.{List}

@@ -7,7 +7,7 @@
 //
 // So a link has a column: 1 for the cards in the set without card 0. Links of one class have the same column, so no classes are kept: the
 // links are taken in rising order, and one opens its column where its ends have the same address so far; an n-th column is one too many.
-// Whether the sets are convex is not asked: as in Eppstein's recognition of partial cubes, all pairs of cards are tested at the end. If
+// Whether the sets are convex is not asked: as Eppstein does (docs/REQUIREMENTS.md, Literature), all pairs of cards are tested at the end. If
 // all differ in as many places as they are hops apart, these are the addresses; if not, the rack has none, and 11 is said.
 // The tests of 2 to 10 and the hops are those of the crate survey.
 ghost use mathlib.Core.Path.{_≡_};

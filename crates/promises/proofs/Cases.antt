@@ -23,7 +23,7 @@ use Rattle.text.specs.Decimals.{digits, decimal}
 use Rattle.listing_text.specs.Listing.{cards-word, links-word, columns-word, card-word, refused-word, at-link, at-card, space, dash, line-end}
 use Rattle.listing_text.specs.Listing.{number-line, address-text, card-line, size-lines, rack-lines, rack-text, names-link, place-text, refused-text, listing}
 use Rattle.promises.specs.Claims.{hex-digit, hex-bytes, hex, Claim, claim-holds, Case, case, rack, file-of, plan-of, case-holds, failing}
-use Rattle.promises.specs.Cases.{ring-of-four, ring-plan, paper-cases, size-cases, link-cases, rack-cases, plan-cases, call-cases, cases}
+use Rattle.promises.specs.Cases.{ring-of-four, ring-plan, required-cases, size-cases, link-cases, rack-cases, plan-cases, call-cases, cases}
 
 -- A CLAIM THAT FAILS has no proof, and the checker's message shows it, behind the name of its row. Both types are pairs: to check a
 -- pair the checker has to compute the list, and then says what it found in it.
@@ -35,7 +35,7 @@ None ((s, c) ∷ rest) = Fails s c × Unit {0}
 
 -- THE TEST
 none-fails : None (failing cases)
-unfolding cases paper-cases size-cases link-cases rack-cases plan-cases call-cases ring-of-four ring-plan rack file-of plan-of hex
+unfolding cases required-cases size-cases link-cases rack-cases plan-cases call-cases ring-of-four ring-plan rack file-of plan-of hex
     hex-bytes hex-digit claim-holds failing
     number-bit bits-value joins linked neighbours touches other-end has-path hops unreached connected
     nearer-first side column same-column add-column add-columns columns column-count address hamming embeds

@@ -1,4 +1,4 @@
--- The table of cases: document 01's P1 to P10, and a row for each rule that these do not show. Assumes nothing: these are definitions.
+-- The table of cases: P1 to P10 of docs/REQUIREMENTS.md, and a row for each rule that these do not show. Assumes nothing: these are definitions.
 use mathlib.Core.List.{List, [], _∷_, _++_}
 use Prim.Native.Nat.{ℕ}
 use lib.ListN.{take, set, replicate}
@@ -15,8 +15,8 @@ unfoldable pub ring-plan : List ℕ
 ring-plan = plan-bytes (wiring 4 ring-of-four)
 
 -- P1 to P10, in their order
-unfoldable pub paper-cases : List Case
-paper-cases =
+unfoldable pub required-cases : List Case
+required-cases =
     rack "P1: one card" 1 []
     (refused 0 0 ∷ addresses ("" ∷ []) ∷ plan-size 6 ∷ lists "cards 1\nlinks 0\ncolumns 0\ncard 0 -\n" ∷ [])
     ∷ rack "P2: two cards apart" 2 [] (refused 9 1 ∷ lists "refused 9 card 1\n" ∷ [])
@@ -113,4 +113,4 @@ call-cases =
     ∷ []
 
 unfoldable pub cases : List Case
-cases = paper-cases ++ size-cases ++ link-cases ++ rack-cases ++ plan-cases ++ call-cases
+cases = required-cases ++ size-cases ++ link-cases ++ rack-cases ++ plan-cases ++ call-cases

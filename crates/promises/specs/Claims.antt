@@ -16,7 +16,7 @@ use Rattle.forwarder.specs.Calls.{lent-met, walk-hops, walk-refusal}
 use Rattle.text.specs.Codes.{codes}
 use Rattle.listing_text.specs.Listing.{column-digit, listing}
 
--- BYTES in hexadecimal, as document 01 writes them: "04 00 0a"
+-- BYTES in hexadecimal, as docs/REQUIREMENTS.md writes them: "04 00 0a"
 unfoldable pub hex-digit : (code : ℕ) → ℕ
 hex-digit c = cond (ltb c 97) (c - 48) (c - 87)
 

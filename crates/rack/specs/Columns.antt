@@ -46,7 +46,7 @@ address w c j = getD (getD (columns w) j []) c false
 unfoldable pub hamming : (k : ℕ) → (x y : ℕ → Bool) → ℕ
 hamming k x y = count (λ j. differ (x j) (y j)) (range k)
 
--- rows of k bits, one for each card, that measure hops (document 01: a choice with the property of demand 2):
+-- rows of k bits, one for each card, that measure hops (docs/REQUIREMENTS.md: a choice with the property of demand 2):
 -- an isometric embedding of the rack in the hypercube of k dimensions. Only cards and the first k places count.
 abbrev pub Embedding : Wiring → (k : ℕ) → (rows : ℕ → ℕ → Bool) → Type 0
 Embedding w k r = (a b : ℕ) → a < w .cards → b < w .cards → hamming k (r a) (r b) ≡ hops w a b

@@ -1,4 +1,4 @@
--- Embeddings up to the order of columns, complements and constant columns (demand 3). Assumes nothing: these are definitions.
+-- Embeddings up to the order of columns, complements and constant columns (demand 3, docs/REQUIREMENTS.md). Assumes nothing: these are definitions.
 use mathlib.Core.Path.{_≡_}
 use mathlib.Core.Bool.{Bool, false, _||_, not, cond}
 use mathlib.Core.List.{List, [], _∷_, map}

@@ -6,7 +6,7 @@ use lib.Dec.{ltb, eqb}
 use Rattle.rack.specs.Lists.{any, lowest}
 use Rattle.rack.specs.Wiring.{Wiring, linked, neighbours}
 
--- some path (document 01: a way) of k links leads from a to b
+-- some path of k links leads from a to b (docs/REQUIREMENTS.md: a way)
 unfoldable pub has-path : Wiring → (k a b : ℕ) → Bool
 has-path w zero a b = eqb a b
 has-path w (suc k) a b = any (λ c. has-path w k c b) (neighbours w a)

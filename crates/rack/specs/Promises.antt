@@ -1,4 +1,4 @@
--- What is promised of wirings, hops, columns and embeddings. Each statement is proved in proofs/Promises.antt under its name.
+-- What is promised of wirings, hops, columns and embeddings, each proved in proofs/Promises.antt under its name. Quotations: docs/REQUIREMENTS.md.
 use mathlib.Core.Path.{_≡_}
 use mathlib.Core.Bool.{Bool, true, false}
 use mathlib.Core.Logic.{_⊎_, _↔_, _≢_}
@@ -32,7 +32,7 @@ Connected-paths =
     (connected w ≡ true → (a b : ℕ) → a < w .cards → b < w .cards → (cs : List ℕ) × (is-path w a cs b ≡ true))
     × (((c : ℕ) → c < w .cards → (cs : List ℕ) × (is-path w 0 cs c ≡ true)) → connected w ≡ true)
 
--- "No card is at equal distance" from a link's ends, "in a connected rack without odd loops" (document 003, lemmas 3 and 4)
+-- "No card is at equal distance" from a link's ends, "in a connected rack without odd loops" (Eppstein, lemmas 3 and 4)
 unfoldable pub No-ties : Type 0
 No-ties =
     (w : Wiring) (p q c : ℕ) → well-formed w ≡ true → connected w ≡ true → parity-refusal w .number ≡ 0 →

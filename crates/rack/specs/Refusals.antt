@@ -8,7 +8,7 @@ use Rattle.rack.specs.Wiring.{Wiring, link-count, link-at, joins}
 use Rattle.rack.specs.Hops.{hops, unreached, connected}
 use Rattle.rack.specs.Columns.{column-count, address, embeds}
 
--- document 01's number, 0 for none, and the link or card in fault
+-- the number (docs/REQUIREMENTS.md, Refusals by place), 0 for none, and the link or card in fault
 pub record Refusal : Type 0 where
   pub number : ℕ
   pub at : ℕ

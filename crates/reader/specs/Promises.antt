@@ -1,4 +1,4 @@
--- What is promised of reading a plan. Each statement is proved in proofs/Promises.antt under its name.
+-- What is promised of reading a plan. Each statement is proved in proofs/Promises.antt under its name. Quotations: docs/REQUIREMENTS.md.
 use mathlib.Core.Path.{_≡_}
 use mathlib.Core.Bool.{true, false}
 use mathlib.Core.List.{List, []}

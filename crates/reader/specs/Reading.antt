@@ -64,6 +64,6 @@ pub record Slice-is (at : ℕ × ℕ) (bs : List ℕ) (r : RefT (List ℕ)) : Ty
   pub place : r .ptr ≡ at
   pub bytes : now r ≡ bs
 
--- "A card's address is handed out as that part of the plan's own bytes": of those of a plan that begins at this place
+-- "A card's address is handed out as that part of the plan's own bytes" (docs/REQUIREMENTS.md): of those of a plan that begins at this place
 abbrev pub Address-says : (ps : List ℕ) (at : ℕ × ℕ) (card : ℕ) → RefT (List ℕ) → Type 0
 Address-says ps at c r = Slice-is (at .0, address-offset ps c + at .1) (address-part ps c) r
