@@ -1,23 +1,23 @@
 /* Jolvente: addresses for intercom racks, plans, and walks over them.
  *
- * Link with libjolvente.a; nothing else is needed. The calls keep no state, allocate nothing and may run at the same time
- * on different buffers.
+ * Link with libjolvente.a, which uses memcpy and memset and nothing else. The calls keep no state, allocate nothing and may run at
+ * the same time on different buffers, each with the stack that is told below.
  *
- * Every call returns R, and R % 256 is the refusal's number, 0 for none. With 6, 7, 8 and 10, R / 256 is the lowest link
- * in fault; with 9 it is the lowest card that cannot be reached; else it is 0. Links and cards are counted from 0.
+ * Every call returns R, and R % 256 is the refusal's number, 0 for none. With 6, 7, 8 and 10, R / 256 is this link, the lowest in
+ * fault; with 9 it is this card, the lowest that cannot be reached; else it is 0. Links and cards are counted from 0.
  *
- *    1  a lent buffer is not as long as this header says
+ *    1  a lent buffer is not as long as the header says
  *    2  the wiring file has fewer than 4 bytes
- *    3  it has no card, or more than 256
- *    4  it has more than 2,048 links
- *    5  it is not 4 + 4 x links bytes long
- *    6  a link has an end that is no card
- *    7  a link has both ends at one card
- *    8  an earlier link joins the same two cards
- *    9  a card cannot be reached from card 0
- *   10  a link closes a loop of odd length: no addresses exist
- *   11  no addresses exist
- *   12  the plan's layout is wrong: its sizes or its length
+ *    3  the wiring file says no card or more than 256; it may be no wiring file
+ *    4  the wiring file says more than 2,048 links
+ *    5  the wiring file is not 4 + 4 x links bytes long; it may be cut, or no wiring file
+ *    6  this link has an end that is no card
+ *    7  this link has both ends at one card
+ *    8  this link joins the same two cards as an earlier one
+ *    9  this card cannot be reached from card 0
+ *   10  this link closes a loop of an odd number of links, so no addresses exist
+ *   11  no addresses exist, though no loop is odd; look for two cards with three common neighbours
+ *   12  the plan's sizes or its length are wrong; it may be no plan file
  *   13  the plan is not the one that the planner writes for its wiring
  *   14  a card number is not below the number of cards
  *   15  a traffic count would pass 4,294,967,295
@@ -43,10 +43,20 @@
 extern "C" {
 #endif
 
+#define JOLVENTE_VERSION "0.5"
+
 enum {
     JOLVENTE_PLAN_BYTES = 16390,
     JOLVENTE_MET_BYTES = 512,
     JOLVENTE_RECORD_BYTES = 16
+};
+
+/* Bytes of stack that each call needs, at most. A dynamic linker that looks memcpy and memset up at their first use takes about 3 KB
+ * more in that call. */
+enum {
+    JOLVENTE_WRITE_PLAN_STACK = 100 * 1024,
+    JOLVENTE_READ_PLAN_STACK = 124 * 1024,
+    JOLVENTE_WALK_STACK = 2 * 1024
 };
 
 /* Plans a wiring and writes its plan file.
@@ -68,7 +78,7 @@ uint32_t jolvente_read_plan(const uint8_t *plan, size_t plan_len, uint8_t *recor
  * stuck one leaves them. Hops + 1 cards were met. Refuses with 1, 12, 14 and 15.
  *
  * The plan's layout alone is tested, so a frame can be stuck on a plan that jolvente_read_plan refuses. On a plan that it
- * reads every frame arrives, by the fewest links. */
+ * reads every frame that the counts can take arrives, by the fewest links. */
 uint32_t jolvente_walk(const uint8_t *plan, size_t plan_len, uint32_t from, uint32_t goal, uint8_t *met, size_t met_len, uint8_t *record, size_t record_len);
 
 #ifdef __cplusplus

@@ -1,0 +1,126 @@
+/* The client's commands, but for `check`. */
+#include <stdio.h>
+
+#include "client.h"
+
+/* The longest wiring file has 4 + 4 x 2,048 bytes; one more is read, so that a longer file is refused. */
+enum { WIRING_ROOM = 4 + 4 * 2048 + 1 };
+
+int plan_wiring(char **words)
+{
+    uint8_t wiring[WIRING_ROOM];
+    uint8_t bytes[JOLVENTE_PLAN_BYTES];
+    uint8_t record[JOLVENTE_RECORD_BYTES];
+    uint32_t answer;
+    size_t length;
+    int status;
+    if (same_file(words[0], words[1]))
+        return trouble("cannot write", words[1], "it is the wiring file itself");
+    status = read_file(words[0], wiring, sizeof wiring, &length);
+    if (status != DONE)
+        return status;
+    answer = jolvente_write_plan(wiring, length, bytes, sizeof bytes, record, sizeof record);
+    if (answer != 0)
+        return refused(answer);
+    status = write_file(words[1], bytes, number_of(record, 0));
+    if (status == DONE)
+        printf("plan of %u bytes\n", (unsigned)number_of(record, 0));
+    return status;
+}
+
+/* Reads a plan file, and says why where it is refused. */
+static int open_plan(const char *name, struct plan *plan)
+{
+    uint32_t answer;
+    int status = load_plan(name, plan, &answer);
+    return status == DONE && answer != 0 ? refused(answer) : status;
+}
+
+static void put_sizes(const struct plan *plan)
+{
+    printf("cards %u\nlinks %u\ncolumns %u\n", (unsigned)plan->cards, (unsigned)plan->links, (unsigned)plan->columns);
+}
+
+/* A card's line, as the listing has it. */
+static void put_card(const struct plan *plan, uint32_t card)
+{
+    uint32_t j;
+    printf("card %u ", (unsigned)card);
+    for (j = 0; j < plan->columns; j++)
+        putchar('0' + address_bit(plan, card, j));
+    puts(plan->columns == 0 ? "-" : "");
+}
+
+int read_plan(char **words)
+{
+    struct plan plan;
+    int status = open_plan(words[0], &plan);
+    if (status == DONE)
+        put_sizes(&plan);
+    return status;
+}
+
+int list_plan(char **words)
+{
+    struct plan plan;
+    uint32_t card;
+    int status = open_plan(words[0], &plan);
+    if (status != DONE)
+        return status;
+    put_sizes(&plan);
+    for (card = 0; card < plan.cards; card++)
+        put_card(&plan, card);
+    return DONE;
+}
+
+/* A card number in decimal; TROUBLE where the word is none. */
+static int card_number(const char *word, uint32_t *card)
+{
+    unsigned long long value = 0;
+    const char *digit = word;
+    while ('0' <= *digit && *digit <= '9' && value <= UINT32_MAX)
+        value = 10 * value + (unsigned)(*digit++ - '0');
+    *card = (uint32_t)value;
+    if (digit == word || *digit != '\0' || value > UINT32_MAX)
+        return trouble("no card number", word, "a card is a number from 0 to 4294967295");
+    return DONE;
+}
+
+int say_address(char **words)
+{
+    struct plan plan;
+    uint32_t card;
+    int status = card_number(words[1], &card);
+    if (status == DONE)
+        status = open_plan(words[0], &plan);
+    if (status != DONE)
+        return status;
+    if (card >= plan.cards)
+        return refused(14);
+    put_card(&plan, card);
+    return DONE;
+}
+
+int walk_frame(char **words)
+{
+    uint8_t bytes[JOLVENTE_PLAN_BYTES + 1];
+    uint8_t met[JOLVENTE_MET_BYTES];
+    uint8_t record[JOLVENTE_RECORD_BYTES] = {0};
+    uint32_t from, to = 0, answer, i;
+    size_t length = 0;
+    int status = card_number(words[1], &from);
+    if (status == DONE)
+        status = card_number(words[2], &to);
+    if (status == DONE)
+        status = read_file(words[0], bytes, sizeof bytes, &length);
+    if (status != DONE)
+        return status;
+    answer = jolvente_walk(bytes, length, from, to, met, sizeof met, record, sizeof record);
+    if (answer != 0)
+        return refused(answer);
+    printf("%s after %u hops:", number_of(record, 0) ? "arrived" : "stuck", (unsigned)number_of(record, 1));
+    for (i = 0; i <= number_of(record, 1); i++)
+        printf(" %u", (unsigned)number_at(met, 2 * (size_t)i));
+    printf("\n");
+    return number_of(record, 0) ? DONE : REFUSED;
+}
