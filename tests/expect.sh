@@ -1,6 +1,7 @@
 # shellcheck shell=bash
 # Sourced by the tests of what people use: runs a command, holds its status and what it says to what is expected, and counts. Each has a
 # folder of its own for its files.
+export LC_ALL=C
 folder=$(mktemp -d)
 trap 'rm -rf "$folder"' EXIT
 uses=0
