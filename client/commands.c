@@ -3,12 +3,9 @@
 
 #include "client.h"
 
-/* The longest wiring file has 4 + 4 x 2,048 bytes; one more is read, so that a longer file is refused. */
-enum { WIRING_ROOM = 4 + 4 * 2048 + 1 };
-
 int plan_wiring(char **words)
 {
-    uint8_t wiring[WIRING_ROOM];
+    uint8_t wiring[JOLVENTE_WIRING_BYTES + 1];
     uint8_t bytes[JOLVENTE_PLAN_BYTES];
     uint8_t record[JOLVENTE_RECORD_BYTES];
     uint32_t answer;

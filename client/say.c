@@ -37,7 +37,7 @@ int refused(uint32_t answer)
         fprintf(stderr, " card %u", (unsigned)(answer / 256));
     else if (number == 10 || (6 <= number && number <= 8))
         fprintf(stderr, " link %u", (unsigned)(answer / 256));
-    fprintf(stderr, ": %s\n", MEANING[number]);
+    fprintf(stderr, ": %s\n", number < sizeof MEANING / sizeof MEANING[0] ? MEANING[number] : "not a number of this client's header");
     return REFUSED;
 }
 

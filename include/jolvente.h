@@ -43,9 +43,12 @@
 extern "C" {
 #endif
 
+/* Raised with each section of docs/LANDINGS.md. */
 #define JOLVENTE_VERSION "0.5"
 
+/* The longest wiring file, the longest plan file, and lent lengths. */
 enum {
+    JOLVENTE_WIRING_BYTES = 8196,
     JOLVENTE_PLAN_BYTES = 16390,
     JOLVENTE_MET_BYTES = 512,
     JOLVENTE_RECORD_BYTES = 16

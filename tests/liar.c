@@ -46,5 +46,5 @@ uint32_t jolvente_walk(const uint8_t *plan, size_t plan_len, uint32_t from, uint
         memset(record + 4, 0xff, 4);
     put(record, 2, (uint32_t)record[8] + !lies("frames"));
     put(record, 3, (uint32_t)record[12] + (lies("counts") ? 2 : hops));
-    return lies("refusal") ? 15 : 0;
+    return lies("refusal") ? 15 : lies("number") ? 255 : 0;
 }

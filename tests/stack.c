@@ -12,7 +12,7 @@ enum { ROOM = 1 << 20, PAINT = 0xa5 };
 static uint8_t stack[ROOM];
 static ucontext_t back, there;
 
-static uint8_t wiring[8197], plan[JOLVENTE_PLAN_BYTES], met[JOLVENTE_MET_BYTES], record[JOLVENTE_RECORD_BYTES];
+static uint8_t wiring[JOLVENTE_WIRING_BYTES + 1], plan[JOLVENTE_PLAN_BYTES], met[JOLVENTE_MET_BYTES], record[JOLVENTE_RECORD_BYTES];
 static size_t wiring_length, plan_length;
 static uint32_t from, goal;
 
