@@ -134,10 +134,10 @@ int check_plan(char **words)
     if (status != DONE)
         return status;
     read = answer == 0 ? DONE : refused(answer);
-    if (answer == 12)
-        return read;
     if (answer == 13)
         fprintf(stderr, "every pair is walked all the same\n");
+    else if (answer != 0)
+        return read;
     note_links(&c);
     status = walk_pairs(&c);
     return status == DONE ? read : status;

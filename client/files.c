@@ -34,7 +34,7 @@ int same_file(const char *one, const char *other)
     return stat(one, &a) == 0 && stat(other, &b) == 0 && a.st_dev == b.st_dev && a.st_ino == b.st_ino;
 }
 
-/* Whether a file may take this name, and the mode that it then keeps; 0 where nothing has the name. */
+/* Whether a file may take this name, and the mode of the file that has it; 0 where none has. */
 static int may_write(const char *name, mode_t *mode)
 {
     struct stat there;
@@ -47,7 +47,7 @@ static int may_write(const char *name, mode_t *mode)
         return cannot_write(name, S_ISDIR(there.st_mode) ? "it is a directory" : "it is no regular file");
     if (access(name, W_OK) != 0)
         return cannot_write(name, strerror(errno));
-    *mode = there.st_mode & 07777;
+    *mode = there.st_mode;
     return DONE;
 }
 
@@ -70,11 +70,11 @@ static int open_beside(const char *name, mode_t mode, char **beside)
     return file;
 }
 
-/* Fills an open file, gives it the mode, has it flushed to the disk and closes it; 0, or the error's number. */
+/* Fills an open file, gives it the mode unless that is 0, has it flushed to the disk and closes it; 0, or the error's number. */
 static int fill(int file, mode_t mode, const uint8_t *bytes, size_t length)
 {
     size_t done = 0;
-    int failed = mode && fchmod(file, mode) != 0 ? errno : 0;
+    int failed = mode && fchmod(file, mode & 07777) != 0 ? errno : 0;
     while (!failed && done < length) {
         ssize_t written = write(file, bytes + done, length - done);
         if (written >= 0)

@@ -9,13 +9,14 @@ uint32_t number_at(const uint8_t *bytes, size_t place)
 int load_plan(const char *name, struct plan *plan, uint32_t *answer)
 {
     uint8_t record[JOLVENTE_RECORD_BYTES];
-    int status = read_file(name, plan->bytes, sizeof plan->bytes, &plan->length);
+    int has_sizes, status = read_file(name, plan->bytes, sizeof plan->bytes, &plan->length);
     if (status != DONE)
         return status;
     *answer = jolvente_read_plan(plan->bytes, plan->length, record, sizeof record);
-    plan->cards = *answer == 12 ? 0 : number_at(plan->bytes, 0);
-    plan->links = *answer == 12 ? 0 : number_at(plan->bytes, 2);
-    plan->columns = *answer == 12 ? 0 : number_at(plan->bytes, 4);
+    has_sizes = *answer == 0 || *answer == 13;
+    plan->cards = has_sizes ? number_at(plan->bytes, 0) : 0;
+    plan->links = has_sizes ? number_at(plan->bytes, 2) : 0;
+    plan->columns = has_sizes ? number_at(plan->bytes, 4) : 0;
     return DONE;
 }
 
