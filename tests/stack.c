@@ -94,11 +94,12 @@ static void try_wiring(const char *name)
 int main(int argc, char **argv)
 {
     int i, failures = 0;
+    size_t call;
     for (i = 1; i < argc; i++)
         try_wiring(argv[i]);
-    for (i = 0; i < 3; i++) {
-        printf("stack: %s used %zu bytes of %zu\n", calls[i].name, calls[i].most, calls[i].said);
-        if (argc == 1 || calls[i].most > calls[i].said)
+    for (call = 0; call < sizeof calls / sizeof calls[0]; call++) {
+        printf("stack: %s used %zu bytes of %zu\n", calls[call].name, calls[call].most, calls[call].said);
+        if (calls[call].most == 0 || calls[call].most > calls[call].said)
             failures++;
     }
     return failures != 0;

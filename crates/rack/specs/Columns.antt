@@ -17,7 +17,7 @@ nearer-first w l c = ltb (hops w c (l .first)) (hops w c (l .second))
 unfoldable pub side : Wiring → Link → (c : ℕ) → Bool
 side w l c = differ (nearer-first w l c) (nearer-first w l 0)
 
--- the link's column: a bit for each card. Links with equal columns are an edge class of Djoković and Winkler
+-- the link's column: a bit for each card. In an accepted rack, links with equal columns are an edge class of Djoković and Winkler
 unfoldable pub column : Wiring → Link → List Bool
 column w l = tabulate (w .cards) (side w l)
 

@@ -70,7 +70,7 @@ Reader-promise = (ps : List ℕ) → plan-refusal ps ≡ 0 → Measured ps
 unfoldable pub Refused-address-empty : Type 0
 Refused-address-empty = (ps : List ℕ) (c : ℕ) → address-refusal ps c ≢ 0 → address-part ps c ≡ []
 
--- "n addresses of B bytes each. Column j is bit j mod 8 of byte j / 8. Bits past column k−1 are zero": of what is handed out
+-- "n addresses of B bytes each", "column j is bit j mod 8 of byte j / 8", "bits past column k−1 are zero": of what is handed out
 unfoldable pub Address-whole : Type 0
 Address-whole =
     (ps : List ℕ) (c : ℕ) → address-refusal ps c ≡ 0 →
