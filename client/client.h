@@ -26,8 +26,11 @@ int trouble(const char *what, const char *name, const char *reason);
 /* Reads a file, at most room bytes of it, and tells its length. A longer one is cut, and then refused by its length. */
 int read_file(const char *name, uint8_t *bytes, size_t room, size_t *length);
 
-/* Writes a file whole or not at all. What stood there is lost only to the whole file, which then has its mode. */
+/* Writes a file whole or not at all. What stood there is lost only to the whole file, which then has its rights. */
 int write_file(const char *name, const uint8_t *bytes, size_t length);
+
+/* Whether a regular file has this name. */
+int is_file(const char *name);
 
 /* Whether both names are names of one file. */
 int same_file(const char *one, const char *other);

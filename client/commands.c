@@ -3,6 +3,17 @@
 
 #include "client.h"
 
+/* Whether a plan may take the place of a file: of a plan, also one that 13 refuses, or of an empty file. */
+static int may_replace(const char *name)
+{
+    struct plan old;
+    uint32_t answer;
+    int status = load_plan(name, &old, &answer);
+    if (status == DONE && answer == 12 && old.length > 0)
+        return trouble("cannot write", name, "it is no plan file; remove it first");
+    return status;
+}
+
 int plan_wiring(char **words)
 {
     uint8_t wiring[JOLVENTE_WIRING_BYTES + 1];
@@ -19,7 +30,10 @@ int plan_wiring(char **words)
     answer = jolvente_write_plan(wiring, length, bytes, sizeof bytes, record, sizeof record);
     if (answer != 0)
         return refused(answer);
-    status = write_file(words[1], bytes, number_of(record, 0));
+    if (is_file(words[1]))
+        status = may_replace(words[1]);
+    if (status == DONE)
+        status = write_file(words[1], bytes, number_of(record, 0));
     if (status == DONE)
         printf("plan of %u bytes\n", (unsigned)number_of(record, 0));
     return status;

@@ -28,6 +28,12 @@ int read_file(const char *name, uint8_t *bytes, size_t room, size_t *length)
     return failed ? trouble("cannot read", name, strerror(failed)) : DONE;
 }
 
+int is_file(const char *name)
+{
+    struct stat there;
+    return lstat(name, &there) == 0 && S_ISREG(there.st_mode);
+}
+
 int same_file(const char *one, const char *other)
 {
     struct stat a, b;
@@ -70,11 +76,20 @@ static int open_beside(const char *name, mode_t mode, char **beside)
     return file;
 }
 
-/* Fills an open file, gives it the mode unless that is 0, has it flushed to the disk and closes it; 0, or the error's number. */
+/* Gives an open file the rights of a mode unless that is 0 or it has them; some disks know no others. 0, or the error's number. */
+static int give_rights(int file, mode_t mode)
+{
+    struct stat now;
+    if (mode == 0 || (fstat(file, &now) == 0 && (now.st_mode & 0777) == (mode & 0777)))
+        return 0;
+    return fchmod(file, mode & 0777) == 0 ? 0 : errno;
+}
+
+/* Fills an open file, has it flushed to the disk and closes it; 0, or the error's number. */
 static int fill(int file, mode_t mode, const uint8_t *bytes, size_t length)
 {
     size_t done = 0;
-    int failed = mode && fchmod(file, mode & 07777) != 0 ? errno : 0;
+    int failed = give_rights(file, mode);
     while (!failed && done < length) {
         ssize_t written = write(file, bytes + done, length - done);
         if (written >= 0)
@@ -103,8 +118,8 @@ int write_file(const char *name, const uint8_t *bytes, size_t length)
         failed = fill(file, mode, bytes, length);
         if (!failed && rename(beside, name) != 0)
             failed = errno;
-        if (failed)
-            unlink(beside);
+        if (failed && unlink(beside) != 0)
+            trouble("cannot remove", beside, strerror(errno));
     }
     free(beside);
     return failed ? cannot_write(name, strerror(failed)) : DONE;

@@ -38,7 +38,7 @@ static int help(void)
         printf("  jolvente %-8s%-14s%s\n", COMMANDS[i].name, COMMANDS[i].words, COMMANDS[i].purpose);
     printf("  jolvente --help, jolvente COMMAND --help, jolvente --version\n\n"
            "Cards and links are counted from 0. Exit status: 0 done; 1 refused by number, or a frame that is stuck or takes more\n"
-           "links than needed; 2 wrong use, or a file that cannot be read or written.\n");
+           "links than needed; 2 wrong use, or a file or output that cannot be read or written.\n");
     return DONE;
 }
 

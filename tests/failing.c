@@ -9,10 +9,15 @@
 #include <sys/stat.h>
 #include <sys/types.h>
 
-static int fails(const char *call, int reason)
+static int asks(const char *what)
 {
     const char *asked = getenv("FAILING");
-    if (!asked || strcmp(asked, call) != 0)
+    return asked && strcmp(asked, what) == 0;
+}
+
+static int fails(const char *call, int reason)
+{
+    if (!asks(call))
         return 0;
     errno = reason;
     return 1;
@@ -26,14 +31,23 @@ static int is_written(int file)
     return flags >= 0 && (flags & O_ACCMODE) != O_RDONLY && fstat(file, &s) == 0 && S_ISREG(s.st_mode);
 }
 
-/* Half of the bytes are written before a write fails. */
+/* Half of the bytes are written before a write fails. What is slow is interrupted every other time, and takes five bytes at most. */
 ssize_t write(int file, const void *bytes, size_t length)
 {
-    static int halved;
+    static unsigned calls;
     ssize_t (*real)(int, const void *, size_t) = (ssize_t(*)(int, const void *, size_t))dlsym(RTLD_NEXT, "write");
-    if (!is_written(file) || !fails("write", ENOSPC))
+    if (!is_written(file))
         return real(file, bytes, length);
-    return halved++ ? -1 : real(file, bytes, length / 2);
+    calls++;
+    if (asks("slowly") && calls % 2 == 1) {
+        errno = EINTR;
+        return -1;
+    }
+    if (asks("slowly"))
+        return real(file, bytes, length < 5 ? length : 5);
+    if (!fails("write", ENOSPC))
+        return real(file, bytes, length);
+    return calls > 1 ? -1 : real(file, bytes, length / 2);
 }
 
 int fsync(int file)
@@ -59,5 +73,12 @@ int close(int file)
 int rename(const char *from, const char *to)
 {
     int (*real)(const char *, const char *) = (int (*)(const char *, const char *))dlsym(RTLD_NEXT, "rename");
-    return fails("rename", EPERM) ? -1 : real(from, to);
+    return fails("rename", EPERM) || fails("unlink", EPERM) ? -1 : real(from, to);
+}
+
+/* Fails with the rename before it. */
+int unlink(const char *name)
+{
+    int (*real)(const char *) = (int (*)(const char *))dlsym(RTLD_NEXT, "unlink");
+    return fails("unlink", EBUSY) ? -1 : real(name);
 }
