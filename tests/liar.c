@@ -29,14 +29,14 @@ uint32_t jolvente_read_plan(const uint8_t *plan, size_t plan_len, uint8_t *recor
     return lies("reading") ? 13 : 0;
 }
 
-/* Right for two cards and one link, but for the lie. */
+/* Right for two cards and one link, and for cards 0 and 1 of the ring of four, but for the lie. */
 uint32_t jolvente_walk(const uint8_t *plan, size_t plan_len, uint32_t from, uint32_t goal, uint8_t *met, size_t met_len, uint8_t *record, size_t record_len)
 {
     uint32_t hops = lies("hops") ? 3 : lies("many") ? 4000000000u : lies("none") ? 0 : 1;
     (void)plan, (void)plan_len, (void)record_len;
     memset(met, 0, met_len);
-    met[0] = (uint8_t)(lies("start") ? goal : from);
-    met[2] = (uint8_t)(lies("end") ? from : goal);
+    met[0] = (uint8_t)(lies("start") ? from + 2 : from);
+    met[2] = (uint8_t)(lies("end") ? from + 3 : goal);
     met[3] = (uint8_t)lies("far");
     met[4] = (uint8_t)from;
     met[6] = (uint8_t)goal;
