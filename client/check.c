@@ -8,7 +8,8 @@
 
 #include "client.h"
 
-enum { CARDS = 256, NO_WAY = CARDS };
+/* A walk may meet every card of the largest rack, a number of 16 bits each; no way has so many links. */
+enum { CARDS = JOLVENTE_MET_BYTES / 2, NO_WAY = CARDS };
 
 struct check {
     struct plan plan;
@@ -63,11 +64,26 @@ static int is_way(const struct check *c, uint32_t from, uint32_t to, uint32_t ho
     return card == to;
 }
 
-/* Says the first pair that fails. */
-static int failed(const struct check *c, uint32_t from, uint32_t to, const char *how)
+/* On a terminal, and after half a second, says how far the check is. */
+static void show_progress(struct check *c, uint32_t from)
+{
+    if (!isatty(STDERR_FILENO) || clock() < CLOCKS_PER_SEC / 2)
+        return;
+    fprintf(stderr, "\rwalked from %u of %u cards", (unsigned)from, (unsigned)c->plan.cards);
+    c->shown = 1;
+}
+
+/* Clears the line for what is said next. */
+static void clear_progress(const struct check *c)
 {
     if (c->shown)
         fprintf(stderr, "\r\033[K");
+}
+
+/* Says the first pair that fails. */
+static int failed(const struct check *c, uint32_t from, uint32_t to, const char *how)
+{
+    clear_progress(c);
     printf("from %u to %u: %s after %u hops; ", (unsigned)from, (unsigned)to, how, (unsigned)number_of(c->record, 1));
     if (c->needed[to] == NO_WAY)
         printf("there is no way\n");
@@ -81,8 +97,10 @@ static int walk_pair(struct check *c, uint32_t from, uint32_t to)
 {
     uint32_t hops, answer;
     answer = jolvente_walk(c->plan.bytes, c->plan.length, from, to, c->met, sizeof c->met, c->record, sizeof c->record);
-    if (answer != 0)
+    if (answer != 0) {
+        clear_progress(c);
         return refused(answer);
+    }
     hops = number_of(c->record, 1);
     if (number_of(c->record, 0) == 0)
         return failed(c, from, to, "stuck");
@@ -99,15 +117,6 @@ static int walk_pair(struct check *c, uint32_t from, uint32_t to)
     return DONE;
 }
 
-/* On a terminal, and after half a second, says how far the check is. */
-static void show_progress(struct check *c, uint32_t from)
-{
-    if (!isatty(STDERR_FILENO) || clock() < CLOCKS_PER_SEC / 2)
-        return;
-    fprintf(stderr, "\rwalked from %u of %u cards", (unsigned)from, (unsigned)c->plan.cards);
-    c->shown = 1;
-}
-
 static int walk_pairs(struct check *c)
 {
     uint32_t from, to;
@@ -120,8 +129,7 @@ static int walk_pairs(struct check *c)
                 return status;
         }
     }
-    if (c->shown)
-        fprintf(stderr, "\r\033[K");
+    clear_progress(c);
     printf("frames %u\nhops %u\nlongest %u\n", (unsigned)c->frames, (unsigned)c->hops, (unsigned)c->longest);
     return DONE;
 }

@@ -12,9 +12,6 @@ enum { DONE = 0, REFUSED = 1, TROUBLE = 2 };
 
 /* say.c */
 
-/* Number i of a record. */
-uint32_t number_of(const uint8_t *record, int i);
-
 /* Says a refusal, by its number, the link or card that it carries, and a sentence; REFUSED. */
 int refused(uint32_t answer);
 
@@ -37,8 +34,9 @@ int same_file(const char *one, const char *other);
 
 /* plans.c */
 
-/* The number of 16 bits at a place in a file. */
+/* The number of 16 bits at a place in a file, and number i of a record, of 32 bits. */
 uint32_t number_at(const uint8_t *bytes, size_t place);
+uint32_t number_of(const uint8_t *record, int i);
 
 /* A plan file, cut one byte past the longest plan, and the sizes in it, which are 0 with 12. */
 struct plan {

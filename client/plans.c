@@ -1,9 +1,15 @@
-/* What a plan's bytes hold: sizes, links and addresses. The library decides whether they are read. */
+/* What records and plan files hold: numbers, sizes, links and addresses. The library decides whether a plan is read. */
 #include "client.h"
 
 uint32_t number_at(const uint8_t *bytes, size_t place)
 {
     return bytes[place] + 256u * bytes[place + 1];
+}
+
+uint32_t number_of(const uint8_t *record, int i)
+{
+    const uint8_t *b = record + 4 * i;
+    return b[0] | (uint32_t)b[1] << 8 | (uint32_t)b[2] << 16 | (uint32_t)b[3] << 24;
 }
 
 int load_plan(const char *name, struct plan *plan, uint32_t *answer)

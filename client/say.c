@@ -23,12 +23,6 @@ static const char *const MEANING[] = {
     "a traffic count would pass 4,294,967,295",
 };
 
-uint32_t number_of(const uint8_t *record, int i)
-{
-    const uint8_t *b = record + 4 * i;
-    return b[0] | (uint32_t)b[1] << 8 | (uint32_t)b[2] << 16 | (uint32_t)b[3] << 24;
-}
-
 int refused(uint32_t answer)
 {
     uint32_t number = answer % 256;

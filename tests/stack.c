@@ -74,6 +74,7 @@ static void measure(struct call *call)
 static void try_wiring(const char *name)
 {
     FILE *file = fopen(name, "rb");
+    uint32_t last;
     if (!file) {
         perror(name);
         exit(1);
@@ -82,12 +83,12 @@ static void try_wiring(const char *name)
     fclose(file);
     measure(&calls[0]);
     plan_length = record[0] + 256u * record[1];
-    from = 0;
-    goal = plan_length ? plan[0] + 256u * plan[1] - 1 : 0;
+    last = plan_length ? plan[0] + 256u * plan[1] - 1 : 0;
     measure(&calls[1]);
     memset(record, 0, sizeof record);
+    from = 0, goal = last;
     measure(&calls[2]);
-    goal = 0;
+    from = last, goal = 0;
     measure(&calls[2]);
 }
 
