@@ -2,6 +2,7 @@ pub mod Plan
 pub mod Reading
 pub mod Addresses
 pub mod Promises
+pub mod Measured
 pub mod Parts
 pub mod InnerFile
 pub mod ReadAnswer

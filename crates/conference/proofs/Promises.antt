@@ -1,0 +1,160 @@
+-- The promises of specs/Promises.antt, proved. Assumes nothing.
+use mathlib.Core.Path.{_≡_, refl, sym, ap, _∙_}
+use mathlib.Core.Bool.{true, false}
+use mathlib.Core.Logic.{inl, inr, ⊎-elim}
+use mathlib.Core.List.{List}
+use Prim.Native.Nat.{ℕ, _+_, _≤_, _<_}
+use native.Mathlib.Omega.{arith}
+use lib.Dec.{ltb}
+use borrow.Author.Tests.{eq-eqb, le-ltb, lt-ltb}
+use Rattle.rack.specs.Lists.{one}
+use Rattle.rack.specs.Wiring.{Wiring}
+use Rattle.rack.specs.Hops.{hops}
+use Rattle.rack.specs.PlanFile.{plan-cards, plan-columns, plan-wiring, plan-bit}
+use Rattle.rack.proofs.Logic.{true-not-false, by-eq, by-lt}
+use Rattle.rack.proofs.Tables.{lowest-passes, lowest-first}
+use Rattle.rack.proofs.Hops.{hops-self}
+use Rattle.rack.proofs.WiringFile.{wiring-at-cards}
+use Rattle.reader.specs.Plan.{plan-refusal}
+use Rattle.reader.specs.Promises.{Measured}
+use Rattle.reader.proofs.Plan.{plan-refusal-most}
+use Rattle.reader.proofs.Promises.{read-measured}
+use Rattle.reader.proofs.Measured.{plan-embedding, plan-connected}
+use Rattle.conference.specs.Conference.{between, median, conference, conference-refusal, Conference-says, On-all-three, Card-or-none}
+use Rattle.conference.specs.Promises.{Between-means, Conference-promise, Conference-refused, Conference-order, Conference-repeated}
+use Rattle.conference.specs.declared.Conference.{Conference}
+use Rattle.conference.proofs.Answers.{Some-outside, no-plan, some-outside, all-inside, inside-or-outside, answered-inside}
+use Rattle.conference.proofs.Medians.{median-tests, tests-median, median-bits, median-once}
+use Rattle.conference.proofs.Order.{first-two-exchanged, last-two-exchanged}
+use Rattle.conference.proofs.ShortestPaths.{between-on-shortest, on-shortest-between}
+
+pub between-means : Between-means
+unfolding Between-means
+between-means w a x b whole ha hx hb = (between-on-shortest w a x b whole ha hx hb, on-shortest-between w a x b)
+
+-- AN ANSWER that is no refusal, from the reader's promise alone
+module _ (ps : List ℕ) (a b c : ℕ) (r : Conference) (s : Conference-says ps a b c r) (z : r .number ≡ 0) where
+  abbrev w : Wiring
+  w = plan-wiring ps
+
+  abbrev met : ℕ
+  met = conference w a b c
+
+  abbrev n : ℕ
+  n = plan-cards ps
+
+  inside : (plan-refusal ps ≡ 0) × (a < n) × (b < n) × (c < n)
+  inside = answered-inside ps a b c (sym (s .number) ∙ z)
+
+  measured : Measured ps
+  measured = read-measured ps (inside .0)
+
+  card : (x : ℕ) → x < n → x < w .cards
+  card x h = omega (arith, wiring-at-cards 6 ps)
+
+  found : r .found ≡ one (ltb met n)
+  found = s .found ∙ rw (eq-eqb (r .number) 0 z) refl
+
+  -- the test and its meaning
+  on-all : (x : ℕ) → x < n → median w a b c x ≡ true → On-all-three w a b c x
+  on-all x h e =
+      let whole = plan-connected ps measured in
+      let t = median-tests w a b c x e in
+      let ha = card a (inside .1) in
+      let hb = card b (inside .2) in
+      let hc = card c (inside .3) in
+      let hx = card x h in (
+        between-on-shortest w a x b whole ha hx hb (t .0),
+        between-on-shortest w a x c whole ha hx hc (t .1),
+        between-on-shortest w b x c whole hb hx hc (t .2),
+      )
+
+  passes : (x : ℕ) → On-all-three w a b c x → median w a b c x ≡ true
+  passes x (p, q, t) = tests-median w a b c x (on-shortest-between w a x b p, on-shortest-between w a x c q, on-shortest-between w b x c t)
+
+  module _ (l : met < n) where
+    is-found : r .found ≡ 1
+    is-found = found ∙ ap one (lt-ltb met n l)
+
+    is-met : r .card ≡ met
+    is-met = s .card ∙ rw is-found refl
+
+    met-passes : median w a b c met ≡ true
+    unfolding conference
+    met-passes = lowest-passes (w .cards) (median w a b c) (card met l)
+
+    some-card : Card-or-none ps a b c r
+    some-card =
+        let m = plan-embedding ps measured in
+        let k = plan-columns ps in
+        let ha = card a (inside .1) in
+        let hb = card b (inside .2) in
+        let hc = card c (inside .3) in
+        let all = on-all met l met-passes in
+        record {
+          either = inr is-found;
+          inside = λ e. omega (arith, is-met);
+          on-all = λ e. rw is-met all;
+          only = λ e x hx o. median-once w k (plan-bit ps) m a b c ha hb hc x met (card x hx) (card met l) (passes x o) met-passes ∙ sym is-met;
+          bits = λ e j hj. rw is-met (median-bits w k (plan-bit ps) m a b c ha hb hc met (card met l) met-passes j hj);
+          none = ((λ e. absurd (omega (arith, is-found))), λ never. absurd (never met l all));
+        }
+
+  module _ (l : n ≤ met) where
+    not-found : r .found ≡ 0
+    not-found = found ∙ ap one (le-ltb met n l)
+
+    no-median : (x : ℕ) → x < n → median w a b c x ≡ false
+    unfolding conference
+    no-median x h = lowest-first (w .cards) (median w a b c) x (omega arith)
+
+    never : {C : Type 0} → r .found ≡ 1 → C
+    never e = absurd (omega (arith, not-found))
+
+    no-card : Card-or-none ps a b c r
+    no-card =
+        record {
+          either = inl not-found;
+          inside = λ e. never e;
+          on-all = λ e. never e;
+          only = λ e. never e;
+          bits = λ e. never e;
+          none = ((λ e x h o. true-not-false (median w a b c x) (passes x o) (no-median x h)), λ _. not-found);
+        }
+
+pub conference-promise : Conference-promise
+unfolding Conference-promise
+conference-promise ps a b c r s z =
+    by-lt (met ps a b c r s z) (plan-cards ps) (some-card ps a b c r s z) (no-card ps a b c r s z)
+
+-- THE REFUSALS
+pub conference-refused : Conference-refused
+unfolding Conference-refused
+conference-refused ps a b c =
+    ((answered-inside ps a b c, λ (e, ha, hb, hc). all-inside ps a b c e ha hb hc), (outside, λ (e, o). some-outside ps a b c e o))
+  where
+    outside : conference-refusal ps a b c ≡ 14 → (plan-refusal ps ≡ 0) × Some-outside ps a b c (plan-cards ps)
+    outside h =
+        by-eq (plan-refusal ps) 0
+        (λ e. (e, inside-or-outside ps a b c (λ ha hb hc. absurd (omega (arith, h, all-inside ps a b c e ha hb hc))) (λ o. o)))
+        (λ d. absurd (omega (arith, h, no-plan ps a b c d, plan-refusal-most ps)))
+
+-- A CARD NAMED TWICE is on the path of no links from it to itself, and at the end of every other
+named-twice : (w : Wiring) (a b : ℕ) → median w a a b a ≡ true
+unfolding between
+named-twice w a b =
+    let self = hops-self w a in
+    let ends : between w a a b ≡ true = eq-eqb (hops w a a + hops w a b) (hops w a b) (omega arith) in
+    tests-median w a a b a (eq-eqb (hops w a a + hops w a a) (hops w a a) (omega arith), ends, ends)
+
+pub conference-repeated : Conference-repeated
+unfolding Conference-repeated Conference-promise
+conference-repeated ps a b r s z =
+    let p = conference-promise ps a a b r s z in
+    let h = inside ps a a b r s z .1 in
+    let all = on-all ps a a b r s z a h (named-twice (plan-wiring ps) a b) in
+    ⊎-elim (λ e. absurd (p .none .0 e a h all)) (λ e. (e, sym (p .only e a h all))) (p .either)
+
+pub conference-order : Conference-order
+unfolding Conference-order
+conference-order ps a b c r s h = (first-two-exchanged ps a b c r s h, last-two-exchanged ps a b c r s h)

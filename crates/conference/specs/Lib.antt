@@ -1,0 +1,3 @@
+pub mod Conference
+pub mod Callers
+pub mod Promises
