@@ -15,16 +15,25 @@ use Rattle.reader.specs.Promises.{Refused-address-empty, No-such-card}
 use Rattle.reader.specs.Reading.{layout-refusal, address-part, address-refusal}
 use Rattle.reader.proofs.Promises.{read-measured, refused-address-empty, no-such-card}
 use Rattle.forwarder.specs.Calls.{step-refusal, walk-refusal}
+use Rattle.conference.specs.Conference.{conference-refusal, Conference-says}
 use Rattle.opened.specs.Opening.{carries, opened-bytes, Opening-says, Walk-with-arrival}
 use Rattle.opened.specs.Promises.{Sizes-carried, Carries-exactly, Opening-whole, Twelve-in-every-call, Refused-opening, Other-sizes}
-use Rattle.opened.specs.Promises.{Refused-opening-empty, Opened-frame-arrives, Opened-address-own, Opened-address-refused}
+use Rattle.opened.specs.Promises.{Refused-opening-empty, Opened-frame-arrives, Opened-conference-own, Opened-address-own, Opened-address-refused}
 use Rattle.opened.specs.declared.Opened.{Opened}
 use Rattle.opened.proofs.Carrying.{carried-bytes-whole, carried-bytes-none}
 
 -- NO BYTES are 12 in every call
 no-bytes-twelve : Twelve-in-every-call []
-unfolding plan-refusal layout-refusal layout-holds address-refusal address-part step-refusal walk-refusal
-no-bytes-twelve = record { read = refl; address = λ c. refl; part = λ c. refl; step = λ a b. refl; walk = λ a b t. refl }
+unfolding plan-refusal layout-refusal layout-holds address-refusal address-part step-refusal walk-refusal conference-refusal
+no-bytes-twelve =
+    record {
+      read = refl;
+      address = λ c. refl;
+      part = λ c. refl;
+      step = λ a b. refl;
+      walk = λ a b t. refl;
+      conference = λ a b c. refl;
+    }
 
 -- THE TEST of the sizes carried
 module _ (p : Opened) where
@@ -126,6 +135,10 @@ pub opened-frame-arrives : Opened-frame-arrives
 unfolding Opened-frame-arrives
 opened-frame-arrives p a b t r old new z f c w =
     subst (λ (qs : List ℕ). Walk-with-arrival qs a b t r old new) (read-whole p (f .read) z) w .arrives f c
+
+pub opened-conference-own : Opened-conference-own
+unfolding Opened-conference-own
+opened-conference-own p a b c r h z says = subst (λ (qs : List ℕ). Conference-says qs a b c r) (read-whole p h z) says
 
 -- AN ADDRESS of an opened plan
 pub opened-address-own : Opened-address-own

@@ -12,6 +12,8 @@ use Rattle.reader.specs.Reading.{address-part, address-refusal, Slice-is, Addre
 use Rattle.forwarder.specs.Calls.{step-refusal, lent-met, walk-refusal, Frame, Arrived, Can-take}
 use Rattle.forwarder.specs.declared.walk.Traffic.{Traffic}
 use Rattle.forwarder.specs.declared.walk.Walked.{Walked}
+use Rattle.conference.specs.Conference.{conference-refusal, Conference-says}
+use Rattle.conference.specs.declared.Conference.{Conference}
 use Rattle.opened.specs.Opening.{carries, opened-bytes, Opening-says, Walk-with-arrival}
 use Rattle.opened.specs.declared.Opened.{Opened}
 
@@ -45,6 +47,7 @@ pub record Twelve-in-every-call (ps : List ℕ) : Type 0 where
   pub part : (c : ℕ) → address-part ps c ≡ []
   pub step : (a b : ℕ) → step-refusal ps a b ≡ 12
   pub walk : (a b : ℕ) (t : Traffic) → walk-refusal ps a b t lent-met ≡ 12
+  pub conference : (a b c : ℕ) → conference-refusal ps a b c ≡ 12
 
 -- a refused opening, and sizes that differ from those in the bytes
 unfoldable pub Refused-opening : Type 0
@@ -59,6 +62,12 @@ Opened-frame-arrives =
     (p : Opened) (a b : ℕ) (t : Traffic) (r : Walked) (old new : List ℕ) →
     Sizes-carried p → Frame (now (p .bytes)) a b old → Can-take t (hops (plan-wiring (now (p .bytes))) a b) →
     Walk-with-arrival (opened-bytes p) a b t r old new → Arrived (now (p .bytes)) a b t r new
+
+-- three cards of a plan that was read, and whose carried sizes are those in the bytes, get the answer of the plan's own bytes
+unfoldable pub Opened-conference-own : Type 0
+Opened-conference-own =
+    (p : Opened) (a b c : ℕ) (r : Conference) → plan-refusal (now (p .bytes)) ≡ 0 → Sizes-carried p →
+    Conference-says (opened-bytes p) a b c r → Conference-says (now (p .bytes)) a b c r
 
 -- "A card's address is handed out as that part of the plan's own bytes": of those of the plan that was opened
 unfoldable pub Opened-address-own : Type 0

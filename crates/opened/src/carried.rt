@@ -6,7 +6,10 @@ ghost use mathlib.Core.List.{[]};
 ghost use lib.Dec.{eqb};
 ghost use Rattle.reader.specs.Reading.{Slice-is, Address-says, address-refusal};
 ghost use Rattle.forwarder.specs.Calls.{Step-says};
+ghost use Rattle.conference.specs.Conference.{Card-or-none, Conference-says};
 ghost use Rattle.opened.specs.Opening.{carries, carried-bytes, Read-with-promise, Walk-with-arrival};
+use conference::Conference;
+use conference::conference_card;
 use forwarder::step::Stepped;
 use forwarder::step::step_frame;
 use forwarder::walk::Traffic;
@@ -126,4 +129,20 @@ pub fn walk_carried(
         traffic,
         met,
     )
+}
+
+// The conference card of three cards, or none: 12, 13, 14.
+pub fn conference_carried(
+    bytes: &[u8],
+    cards: u32,
+    links: u32,
+    columns: u32,
+    a: u32,
+    b: u32,
+    c: u32,
+) -> Conference
+    ensures says { λ r. ⌜ Conference-says (carried-bytes (now (bytes .entry)) cards links columns) a b c r ⌝ }
+    ensures promise { λ r. ⌜ (r .number ≡ 0 → Card-or-none (carried-bytes (now (bytes .entry)) cards links columns) a b c r) ⌝ }
+{
+    conference_card(carried_bytes(bytes, cards, links, columns), a, b, c)
 }

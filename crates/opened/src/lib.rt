@@ -2,13 +2,16 @@
 ghost use mathlib.Core.Path.{_≡_};
 ghost use Rattle.reader.specs.Reading.{Address-says, address-refusal};
 ghost use Rattle.forwarder.specs.Calls.{Step-says};
+ghost use Rattle.conference.specs.Conference.{Card-or-none, Conference-says};
 ghost use Rattle.opened.specs.Opening.{Opening-says, Read-with-promise, Walk-with-arrival, opened-bytes};
 use crate::carried::address_carried;
 use crate::carried::address_refusal_carried;
 use crate::carried::bytes_unless;
+use crate::carried::conference_carried;
 use crate::carried::read_carried;
 use crate::carried::step_carried;
 use crate::carried::walk_carried;
+use conference::Conference;
 use forwarder::step::Stepped;
 use forwarder::walk::Traffic;
 use forwarder::walk::Walked;
@@ -84,5 +87,13 @@ impl<'a> Opened<'a> {
             traffic,
             met,
         )
+    }
+
+    // The card that is on a shortest path between each two of three cards, or none: 12, 13, 14.
+    pub fn conference(self, a: u32, b: u32, c: u32) -> Conference
+        ensures says { λ r. ⌜ Conference-says (opened-bytes (self .entry)) a b c r ⌝ }
+        ensures promise { λ r. ⌜ (r .number ≡ 0 → Card-or-none (opened-bytes (self .entry)) a b c r) ⌝ }
+    {
+        conference_carried(self.bytes, self.cards, self.links, self.columns, a, b, c)
     }
 }
