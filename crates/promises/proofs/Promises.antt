@@ -9,8 +9,10 @@ use Rattle.reader.specs.Promises.{Address-whole, Refused-address-empty, No-such
 use Rattle.reader.proofs.Promises as reader
 use Rattle.forwarder.specs.Promises.{Step-first, Step-local, Step-call-local, Walk-ends, Frame-arrives, Walk-arrives, Walk-full, Stuck-uncounted}
 use Rattle.forwarder.proofs.Promises as forwarder
+use Rattle.conference.specs.Promises.{Between-means, Conference-promise, Conference-refused, Conference-repeated, Conference-order}
+use Rattle.conference.proofs.Promises as conference
 use Rattle.opened.specs.Promises.{Carries-exactly, Opening-whole, Refused-opening-empty, Refused-opening, Other-sizes, Opened-frame-arrives}
-use Rattle.opened.specs.Promises.{Opened-address-own, Opened-address-refused}
+use Rattle.opened.specs.Promises.{Opened-conference-own, Opened-address-own, Opened-address-refused}
 use Rattle.opened.proofs.Promises as opened
 use Rattle.text.specs.Promises.{Decimal-value, Decimal-first, Decimal-digits}
 use Rattle.text.proofs.Promises as text
@@ -148,6 +150,26 @@ walk-full = forwarder.walk-full
 pub stuck-uncounted : Stuck-uncounted
 stuck-uncounted = forwarder.stuck-uncounted
 
+-- hops that add up mean a shortest path through a card
+pub between-means : Between-means
+between-means = conference.between-means
+
+-- a conference card is on all three kinds of shortest path, the only one, with the majority's bits; "none" exactly if there is no such card
+pub conference-promise : Conference-promise
+conference-promise = conference.conference-promise
+
+-- three cards of a plan that was read get an answer, and a number that is no card is 14
+pub conference-refused : Conference-refused
+conference-refused = conference.conference-refused
+
+-- a card that is named twice is the one
+pub conference-repeated : Conference-repeated
+conference-repeated = conference.conference-repeated
+
+-- the order of the three does not matter
+pub conference-order : Conference-order
+conference-order = conference.conference-order
+
 -- an opened plan's calls see its bytes exactly if they have a layout and the sizes carried are those in them
 pub carries-exactly : Carries-exactly
 carries-exactly = opened.carries-exactly
@@ -170,6 +192,10 @@ other-sizes = opened.other-sizes
 -- every frame on an opened plan that was read arrives by the fewest links
 pub opened-frame-arrives : Opened-frame-arrives
 opened-frame-arrives = opened.opened-frame-arrives
+
+-- three cards of an opened plan that was read get the answer of its bytes
+pub opened-conference-own : Opened-conference-own
+opened-conference-own = opened.opened-conference-own
 
 -- an address is that part of the bytes that were opened, or empty
 pub opened-address-own : Opened-address-own

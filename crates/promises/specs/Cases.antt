@@ -6,9 +6,13 @@ use Rattle.rack.specs.Wiring.{Link, link, wiring}
 use Rattle.planner.specs.PlanBytes.{plan-bytes}
 use Rattle.promises.specs.Claims.{hex, Case, rack, file-of, plan-of}
 use Rattle.promises.specs.Claims.{file-is, refused, addresses, lists, plan-size, plan-is, read-as, walks, stuck, walk-answers}
+use Rattle.promises.specs.Claims.{confers, confers-nowhere, conference-answers}
 
 unfoldable pub ring-of-four : List Link
 ring-of-four = link 0 1 ∷ link 1 2 ∷ link 2 3 ∷ link 3 0 ∷ []
+
+unfoldable pub ring-of-six : List Link
+ring-of-six = link 0 1 ∷ link 1 2 ∷ link 2 3 ∷ link 3 4 ∷ link 4 5 ∷ link 5 0 ∷ []
 
 -- P5's plan; the addresses of its cards are bytes 22 to 25
 unfoldable pub ring-plan : List ℕ
@@ -28,7 +32,7 @@ required-cases =
     ∷ plan-is (hex "04 00 04 00 02 00" ++ hex "00 00 01 00 02 00 03 00 01 00 02 00 03 00 00 00" ++ hex "00 01 03 02") ∷ plan-size 26
     ∷ read-as 0
     ∷ lists "cards 4\nlinks 4\ncolumns 2\ncard 0 00\ncard 1 10\ncard 2 11\ncard 3 01\n" ∷ [])
-    ∷ rack "P6: the ring of six" 6 (link 0 1 ∷ link 1 2 ∷ link 2 3 ∷ link 3 4 ∷ link 4 5 ∷ link 5 0 ∷ [])
+    ∷ rack "P6: the ring of six" 6 ring-of-six
     (refused 0 0 ∷ addresses ("000" ∷ "100" ∷ "110" ∷ "111" ∷ "011" ∷ "001" ∷ []) ∷ [])
     ∷ rack "P7: the triangle" 3 (link 0 1 ∷ link 1 2 ∷ link 2 0 ∷ []) (refused 10 1 ∷ lists "refused 10 link 1\n" ∷ [])
     ∷ rack "P8: two by three" 5 (link 0 2 ∷ link 0 3 ∷ link 0 4 ∷ link 1 2 ∷ link 1 3 ∷ link 1 4 ∷ [])
@@ -112,5 +116,20 @@ call-cases =
     ∷ plan-of "stuck, and full counts" (set ring-plan 24 0) (walk-answers 0 2 4294967295 4294967295 0 ∷ [])
     ∷ []
 
+-- three in conference: a card or none, and 12, 13, 14, the first that applies
+unfoldable pub conference-cases : List Case
+conference-cases =
+    rack "one card, three times" 1 [] (confers 0 0 0 0 ∷ [])
+    ∷ rack "three ends of a star: its middle" 4 (link 0 1 ∷ link 0 2 ∷ link 0 3 ∷ []) (confers 1 2 3 0 ∷ [])
+    ∷ rack "the ring of six: the middle one of three in line, or none" 6 ring-of-six
+    (confers-nowhere 0 2 4 ∷ confers-nowhere 5 3 1 ∷ confers 0 2 3 2 ∷ confers 3 0 2 2 ∷ [])
+    ∷ rack "the ring of six: a card named twice" 6 ring-of-six (confers 1 1 4 1 ∷ confers 4 1 4 4 ∷ confers 0 3 3 3 ∷ confers 0 0 0 0 ∷ [])
+    ∷ plan-of "the ring of four: card 0 is an answer, not none" ring-plan (confers 1 0 3 0 ∷ confers 0 1 2 1 ∷ [])
+    ∷ plan-of "no card 4, each of the three: 14" ring-plan
+    (conference-answers 4 0 0 14 ∷ conference-answers 0 4 0 14 ∷ conference-answers 0 0 4 14 ∷ [])
+    ∷ plan-of "P10's plan and no card 4: 13 before 14" (set ring-plan 24 0) (conference-answers 4 4 4 13 ∷ conference-answers 0 1 2 13 ∷ [])
+    ∷ plan-of "no layout and no card 4: 12 before 13 and 14" (take 25 ring-plan) (conference-answers 4 4 4 12 ∷ [])
+    ∷ []
+
 unfoldable pub cases : List Case
-cases = required-cases ++ size-cases ++ link-cases ++ rack-cases ++ plan-cases ++ call-cases
+cases = required-cases ++ size-cases ++ link-cases ++ rack-cases ++ plan-cases ++ call-cases ++ conference-cases

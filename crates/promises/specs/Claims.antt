@@ -9,10 +9,12 @@ use Rattle.rack.specs.Lists.{all, filter, tabulate, same}
 use Rattle.rack.specs.Wiring.{Link, wiring}
 use Rattle.rack.specs.WiringFile.{file-bytes, file-wiring, file-refusal}
 use Rattle.rack.specs.Columns.{column-count, address}
+use Rattle.rack.specs.PlanFile.{plan-cards, plan-wiring}
 use Rattle.planner.specs.PlanBytes.{plan-bytes}
 use Rattle.reader.specs.Plan.{plan-refusal}
 use Rattle.forwarder.specs.Forwarding.{step, walk}
 use Rattle.forwarder.specs.Calls.{lent-met, walk-hops, walk-refusal}
+use Rattle.conference.specs.Conference.{conference, conference-refusal}
 use Rattle.text.specs.Codes.{codes}
 use Rattle.listing_text.specs.Listing.{column-digit, listing}
 
@@ -48,6 +50,10 @@ pub data Claim : Type 0 where
   stuck : (a b : ℕ) → Claim
   -- with these counts before it, the walk from a to b gives this number
   walk-answers : (a b : ℕ) → (frames hops : ℕ) → (number : ℕ) → Claim
+  -- on the plan, three cards confer at this card; at none; they are answered with this number
+  confers : (a b c : ℕ) → (card : ℕ) → Claim
+  confers-nowhere : (a b c : ℕ) → Claim
+  conference-answers : (a b c : ℕ) → (number : ℕ) → Claim
 
 unfoldable pub claim-holds : (file plan : List ℕ) → Claim → Bool
 claim-holds bs ps (file-is xs) = same eqb bs xs
@@ -64,6 +70,10 @@ claim-holds bs ps (walks a b hops met) =
     eqb (v .arrived) 1 && eqb (walk-hops v) hops && same eqb (v .met) met
 claim-holds bs ps (stuck a b) = eqb (step ps a b .outcome) 0
 claim-holds bs ps (walk-answers a b f h n) = eqb (walk-refusal ps a b (record { frames = f; hops = h }) lent-met) n
+claim-holds bs ps (confers a b c x) =
+    eqb (conference-refusal ps a b c) 0 && ltb x (plan-cards ps) && eqb (conference (plan-wiring ps) a b c) x
+claim-holds bs ps (confers-nowhere a b c) = eqb (conference-refusal ps a b c) 0 && eqb (conference (plan-wiring ps) a b c) (plan-cards ps)
+claim-holds bs ps (conference-answers a b c n) = eqb (conference-refusal ps a b c) n
 
 -- ROWS: a name, a wiring file, a plan file, and claims of the two
 pub data Case : Type 0 where
