@@ -12,6 +12,7 @@ use Rattle.reader.specs.declared.layout.Sizes.{Sizes}
 use Rattle.forwarder.specs.declared.step.Stepped.{Stepped}
 use Rattle.forwarder.specs.declared.walk.Traffic.{Traffic}
 use Rattle.forwarder.specs.declared.walk.Walked.{Walked}
+use Rattle.conference.specs.declared.Conference.{Conference}
 
 -- a struct of the number and of lent numbers, in the order of its fields
 abbrev pub answer-in : (number : ℕ) → List ℕ → Answer
@@ -28,6 +29,9 @@ counts f h = record { frames = f; hops = h }
 
 abbrev pub walked-in : (number : ℕ) → List ℕ → Walked
 walked-in x ys = record { number = x; arrived = getD ys 0 0; hops = getD ys 1 0; traffic = counts (getD ys 2 0) (getD ys 3 0) }
+
+abbrev pub conference-in : (number : ℕ) → List ℕ → Conference
+conference-in x ys = record { number = x; found = getD ys 0 0; card = getD ys 1 0 }
 
 -- just as many numbers are lent as the answer has fields, and the call says this; or not as many, and it is 1 and all that is lent is
 -- as it was

@@ -1,7 +1,8 @@
 // Answers taken apart for the tests: the number is returned, the other fields go into lent numbers, in their order.
 ghost use mathlib.Core.Path.{_≡_};
 ghost use lib.ListN.{length};
-ghost use Rattle.test_calls.specs.Answers.{answer-in, sizes-in, stepped-in, walked-in};
+ghost use Rattle.test_calls.specs.Answers.{answer-in, conference-in, sizes-in, stepped-in, walked-in};
+use conference::Conference;
 use forwarder::step::Stepped;
 use forwarder::walk::Walked;
 use planner::Answer;
@@ -54,4 +55,13 @@ pub fn put_walk(w: Walked, answer: &mut [u32]) -> u32
     let t = w.traffic;
     put_fields(&[w.arrived, w.hops, t.frames, t.hops], answer);
     w.number
+}
+
+// 1 for a card or 0 for none, and the card.
+pub fn put_conference(r: Conference, answer: &mut [u32]) -> u32
+    requires { ⌜ length (now answer) ≡ 2 ⌝ }
+    ensures { λ x. ⌜ conference-in x (now (answer .exit)) ≡ r ⌝ }
+{
+    put_fields(&[r.found, r.card], answer);
+    r.number
 }

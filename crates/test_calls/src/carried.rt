@@ -2,14 +2,17 @@
 ghost use mathlib.Core.Path.{_≡_};
 ghost use Rattle.reader.specs.Reading.{Address-says, Read-says, address-refusal};
 ghost use Rattle.forwarder.specs.Calls.{Step-says, Walk-says};
+ghost use Rattle.conference.specs.Conference.{Conference-says};
 ghost use Rattle.opened.specs.Opening.{carried-bytes};
-ghost use Rattle.test_calls.specs.Answers.{Answered, counts, sizes-in, stepped-in, walked-in};
+ghost use Rattle.test_calls.specs.Answers.{Answered, conference-in, counts, sizes-in, stepped-in, walked-in};
+use crate::answers::put_conference;
 use crate::answers::put_sizes;
 use crate::answers::put_step;
 use crate::answers::put_walk;
 use forwarder::walk::Traffic;
 use opened::carried::address_carried;
 use opened::carried::address_refusal_carried;
+use opened::carried::conference_carried;
 use opened::carried::read_carried;
 use opened::carried::step_carried;
 use opened::carried::walk_carried;
@@ -107,6 +110,29 @@ pub extern "C" fn test_walk_carried(
     };
     put_walk(
         walk_carried(bytes, cards, links, columns, from, goal, traffic, met),
+        answer,
+    )
+}
+
+// A conference card: 1, 12, 13, 14.
+#[no_mangle]
+pub extern "C" fn test_conference_carried(
+    bytes: &[u8],
+    cards: u32,
+    links: u32,
+    columns: u32,
+    a: u32,
+    b: u32,
+    c: u32,
+    answer: &mut [u32],
+) -> u32
+    ensures { λ r. ⌜ Answered 2 r (now (answer .entry)) (now (answer .exit)) Unit (Conference-says (carried-bytes (now (bytes .entry)) cards links columns) a b c (conference-in r (now (answer .exit)))) ⌝ }
+{
+    if answer.len() != 2 {
+        return 1;
+    }
+    put_conference(
+        conference_carried(bytes, cards, links, columns, a, b, c),
         answer,
     )
 }

@@ -5,11 +5,14 @@ ghost use mathlib.Core.Path.{_≡_};
 ghost use Rattle.planner.specs.Planning.{Plan-says};
 ghost use Rattle.reader.specs.Reading.{Address-says, address-refusal};
 ghost use Rattle.forwarder.specs.Calls.{Step-says, Walk-says};
+ghost use Rattle.conference.specs.Conference.{Conference-says};
 ghost use Rattle.listing_text.specs.Listing.{Listing-says};
-ghost use Rattle.test_calls.specs.Answers.{Answered, answer-in, counts, stepped-in, walked-in};
+ghost use Rattle.test_calls.specs.Answers.{Answered, answer-in, conference-in, counts, stepped-in, walked-in};
 use answers::put_answer;
+use answers::put_conference;
 use answers::put_step;
 use answers::put_walk;
+use conference::conference_card;
 use forwarder::step::step_frame;
 use forwarder::walk::Traffic;
 use forwarder::walk::walk_frame;
@@ -91,4 +94,21 @@ pub extern "C" fn test_walk_frame(
         hops: hops,
     };
     put_walk(walk_frame(plan, from, goal, traffic, met), answer)
+}
+
+// A conference card: 1, 12, 13, 14. The fields are 1 for a card or 0 for none, and the card.
+#[no_mangle]
+pub extern "C" fn test_conference_card(
+    plan: &[u8],
+    a: u32,
+    b: u32,
+    c: u32,
+    answer: &mut [u32],
+) -> u32
+    ensures { λ r. ⌜ Answered 2 r (now (answer .entry)) (now (answer .exit)) Unit (Conference-says (now (plan .entry)) a b c (conference-in r (now (answer .exit)))) ⌝ }
+{
+    if answer.len() != 2 {
+        return 1;
+    }
+    put_conference(conference_card(plan, a, b, c), answer)
 }
