@@ -20,7 +20,9 @@ use racks::Rng;
 
 const SEED: u64 = 20_261_116;
 const ROUNDS: u64 = 1_200;
-const FEWEST_CALLS: u64 = 100_000;
+const FEWEST_CALLS: u64 = 300_000;
+/// The most cards of a rack of which all threes confer.
+const SMALL: usize = 14;
 
 fn main() {
     let mut numbers = std::env::args()
@@ -62,13 +64,15 @@ fn report(both: &Both, rounds: u64) {
         println!("{name:?} by number {}", counts.join(", "));
     }
     let ([stuck, arrived, onward], ends) = (both.outcomes, both.ends);
+    let [nowhere, somewhere] = both.conferences;
     println!(
-        "steps stuck {stuck}, arrived {arrived}, over a link {onward}; walks stuck {}, arrived {}",
+        "steps stuck {stuck}, arrived {arrived}, over a link {onward}; walks stuck {}, arrived {}; \
+         conferences at a card {somewhere}, at none {nowhere}",
         ends[0], ends[1]
     );
 }
 
-/// Every number that a call can be answered with was met and no other, and every end of steps and walks.
+/// Every number that a call can be answered with was met and no other, and every end of steps, walks and conferences.
 fn check_reach(both: &Both) {
     for name in NAMES {
         for (number, &count) in both.seen[name as usize].iter().enumerate() {
@@ -79,8 +83,8 @@ fn check_reach(both: &Both) {
             }
         }
     }
-    if both.outcomes.contains(&0) || both.ends.contains(&0) {
-        stop("FAILED: a step or a walk never ended in one of its ways");
+    if both.outcomes.contains(&0) || both.ends.contains(&0) || both.conferences.contains(&0) {
+        stop("FAILED: a step, a walk or a conference never ended in one of its ways");
     }
     if both.calls() < FEWEST_CALLS {
         stop(&format!(
@@ -101,6 +105,7 @@ fn run_round(both: &mut Both, rng: &mut Rng) {
     if let Ok(planned) = second::planner::plan(&wiring) {
         let plan = planned.bytes();
         follow_plan(both, rng, &plan, 50);
+        confer(both, rng, &plan);
         for _ in 0..4 {
             let damaged = plans::damaged_plan(rng, &plan);
             follow_plan(both, rng, &damaged, 15);
@@ -117,6 +122,7 @@ fn plan_file(both: &mut Both, rng: &mut Rng, file: &[u8]) {
         sizes: [0; 3],
         from: 0,
         goal: 0,
+        third: 0,
         counts: [0; 2],
     };
     for name in [Name::PlanRack, Name::ListingText] {
@@ -133,10 +139,34 @@ fn follow_plan(both: &mut Both, rng: &mut Rng, plan: &[u8], calls: usize) {
             sizes: some_sizes(rng, plan),
             from: some_card(rng, plan),
             goal: some_card(rng, plan),
+            third: some_card(rng, plan),
             counts: [some_count(rng), some_count(rng)],
         };
         let lengths = some_lengths(rng, call.name);
         both.call(call, plan, lengths);
+    }
+}
+
+/// Asks for the conference cards of all threes of a small rack's cards, and of a hundred of a larger one.
+fn confer(both: &mut Both, rng: &mut Rng, plan: &[u8]) {
+    let cards = usize::from(plan[0]) + 256 * usize::from(plan[1]);
+    let threes: Vec<[usize; 3]> = if cards <= SMALL {
+        let digits = |three: usize| [three / cards / cards, three / cards % cards, three % cards];
+        (0..cards.pow(3)).map(digits).collect()
+    } else {
+        (0..100).map(|_| [0; 3].map(|_| rng.below(cards))).collect()
+    };
+    for three in threes {
+        let [from, goal, third] = three.map(|card| card as u32);
+        let call = Call {
+            name: Name::ConferenceCard,
+            sizes: [0; 3],
+            from,
+            goal,
+            third,
+            counts: [0; 2],
+        };
+        both.call(call, plan, call.name.lengths());
     }
 }
 

@@ -21,9 +21,11 @@ pub enum Name {
     WalkCarried,
     OpenedStep,
     OpenedWalk,
+    ConferenceCard,
+    ConferenceCarried,
 }
 
-pub const NAMES: [Name; 11] = [
+pub const NAMES: [Name; 13] = [
     Name::PlanRack,
     Name::ListingText,
     Name::CardAddress,
@@ -35,6 +37,8 @@ pub const NAMES: [Name; 11] = [
     Name::WalkCarried,
     Name::OpenedStep,
     Name::OpenedWalk,
+    Name::ConferenceCard,
+    Name::ConferenceCarried,
 ];
 
 /// What a call answers.
@@ -46,6 +50,7 @@ pub enum Kind {
     Sizes,
     Step,
     Walk,
+    Conference,
 }
 
 /// How many items are lent for words, for bytes (hops or text), for cards met, and for the answer's fields.
@@ -66,6 +71,7 @@ impl Name {
             Name::ReadCarried => Kind::Sizes,
             Name::StepFrame | Name::StepCarried | Name::OpenedStep => Kind::Step,
             Name::WalkFrame | Name::WalkCarried | Name::OpenedWalk => Kind::Walk,
+            Name::ConferenceCard | Name::ConferenceCarried => Kind::Conference,
         }
     }
 
@@ -76,6 +82,7 @@ impl Name {
             Kind::Address => [0; 4],
             Kind::Sizes | Kind::Step => [0, 0, 0, 3],
             Kind::Walk => [0, 0, 256, 4],
+            Kind::Conference => [0, 0, 0, 2],
         };
         Lengths {
             words,
@@ -94,17 +101,20 @@ impl Name {
             Kind::Sizes => &[0, 1, 12, 13],
             Kind::Step => &[0, 1, 12, 14],
             Kind::Walk => &[0, 1, 12, 14, 15],
+            Kind::Conference => &[0, 1, 12, 13, 14],
         }
     }
 }
 
-/// A call and its numbers; each call takes those that it has. An address is that of card `from`.
+/// A call and its numbers; each call takes those that it has. An address is that of card `from`; a conference is of
+/// `from`, `goal` and `third`.
 #[derive(Clone, Copy, Debug)]
 pub struct Call {
     pub name: Name,
     pub sizes: [u32; 3],
     pub from: u32,
     pub goal: u32,
+    pub third: u32,
     pub counts: [u32; 2],
 }
 
@@ -180,6 +190,9 @@ pub struct Both {
     pub outcomes: [u64; 3],
     /// How often a walk was stuck, or arrived.
     pub ends: [u64; 2],
+    /// How often a conference had no card, or one.
+    pub conferences: [u64; 2],
+    known: inner_second::Known,
 }
 
 impl Both {
@@ -191,6 +204,8 @@ impl Both {
             seen: Default::default(),
             outcomes: [0; 3],
             ends: [0; 2],
+            conferences: [0; 2],
+            known: Default::default(),
         }
     }
 
@@ -203,7 +218,7 @@ impl Both {
         let mut theirs = ours.clone();
         let lent_input = input.to_vec();
         let number = inner_calls::ask(&call, &lent_input, &mut ours);
-        let expected = inner_second::ask(&call, input, &mut theirs);
+        let expected = inner_second::ask(&mut self.known, &call, input, &mut theirs);
         if number != expected || ours != theirs || lent_input != input {
             let shown = &input[..input.len().min(SHOWN)];
             let (seed, round) = (self.seed, self.round);
@@ -229,6 +244,7 @@ impl Both {
         match (name.kind(), number) {
             (Kind::Step, 0) => self.outcomes[fields[0] as usize] += 1,
             (Kind::Walk, 0) => self.ends[fields[0] as usize] += 1,
+            (Kind::Conference, 0) => self.conferences[fields[0] as usize] += 1,
             _ => {}
         }
     }

@@ -121,12 +121,35 @@ extern "C" {
         answer: *mut u32,
         answer_len: usize,
     ) -> u32;
+    fn test_conference_card(
+        plan: *const u8,
+        plan_len: usize,
+        a: u32,
+        b: u32,
+        c: u32,
+        answer: *mut u32,
+        answer_len: usize,
+    ) -> u32;
+    fn test_conference_carried(
+        bytes: *const u8,
+        bytes_len: usize,
+        cards: u32,
+        links: u32,
+        columns: u32,
+        a: u32,
+        b: u32,
+        c: u32,
+        answer: *mut u32,
+        answer_len: usize,
+    ) -> u32;
 }
 
 /// The library's answer. A part is told by how far behind the input's first byte it begins.
 pub fn ask(call: &Call, input: &[u8], lent: &mut Lents) -> u32 {
     let (start, long) = (input.as_ptr(), input.len());
-    let Call { from, goal, .. } = *call;
+    let Call {
+        from, goal, third, ..
+    } = *call;
     let ([n, m, k], [frames, hops]) = (call.sizes, call.counts);
     let nowhere = &[0u8];
     let mut part = Part {
@@ -165,6 +188,12 @@ pub fn ask(call: &Call, input: &[u8], lent: &mut Lents) -> u32 {
             Name::OpenedWalk => test_opened_walk(
                 start, long, from, goal, frames, hops, met, met_len, fields, count,
             ),
+            Name::ConferenceCard => {
+                test_conference_card(start, long, from, goal, third, fields, count)
+            }
+            Name::ConferenceCarried => {
+                test_conference_carried(start, long, n, m, k, from, goal, third, fields, count)
+            }
         }
     };
     if call.name.kind() == Kind::Address {

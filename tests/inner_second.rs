@@ -1,14 +1,19 @@
 //! What the calls of libtest_calls.a mean, by the rules alone, over the second implementation.
 
 use crate::inner_both::{Call, Kind, Lents, Name};
+use crate::second::conference::Ways;
 use crate::second::listing::listing;
 use crate::second::planner::{all_hops, plan};
 use crate::second::plans::Layout;
 
 const CARDS: usize = 256;
 
+/// The last plan that was read for a conference, with its ways: many are asked of one plan.
+#[derive(Default)]
+pub struct Known(Option<(Vec<u8>, Ways)>);
+
 /// The answer's fields go into lent numbers; where these are not as many, the call is 1 and touches nothing.
-pub fn ask(call: &Call, input: &[u8], lent: &mut Lents) -> u32 {
+pub fn ask(known: &mut Known, call: &Call, input: &[u8], lent: &mut Lents) -> u32 {
     if lent.fields.items().len() != call.name.lengths().fields {
         return 1;
     }
@@ -20,6 +25,7 @@ pub fn ask(call: &Call, input: &[u8], lent: &mut Lents) -> u32 {
         Kind::Sizes => read(input, lent),
         Kind::Step => step_frame(call, input, lent),
         Kind::Walk => walk_frame(call, input, lent),
+        Kind::Conference => conference(known, call, input, lent),
     }
 }
 
@@ -28,7 +34,11 @@ pub fn ask(call: &Call, input: &[u8], lent: &mut Lents) -> u32 {
 fn seen<'a>(call: &Call, input: &'a [u8]) -> &'a [u8] {
     let sizes = call.sizes.map(|size| size as usize);
     let whole = match call.name {
-        Name::ReadCarried | Name::AddressCarried | Name::StepCarried | Name::WalkCarried => {
+        Name::ReadCarried
+        | Name::AddressCarried
+        | Name::StepCarried
+        | Name::WalkCarried
+        | Name::ConferenceCarried => {
             Layout::new(input).is_ok_and(|plan| [plan.cards, plan.links, plan.columns] == sizes)
         }
         Name::OpenedStep | Name::OpenedWalk => Layout::read(input).is_ok(),
@@ -195,5 +205,28 @@ fn walk_frame(call: &Call, plan: &[u8], lent: &mut Lents) -> u32 {
         *place = card as u16;
     }
     put(lent, &[arrived, hops, frames, total]);
+    0
+}
+
+/// 12, 13, 14 of any of the three; then 1 and the card, or 0 and 0 for none.
+fn conference(known: &mut Known, call: &Call, plan: &[u8], lent: &mut Lents) -> u32 {
+    put(lent, &[0, 0]);
+    let ways = match known.0.take() {
+        Some((last, ways)) if last == plan => ways,
+        _ => match Layout::read(plan) {
+            Ok(plan) => Ways::new(&plan.wiring()),
+            Err(refusal) => return refusal.number,
+        },
+    };
+    let (_, ways) = known.0.insert((plan.to_vec(), ways));
+    let three = [call.from, call.goal, call.third].map(|card| card as usize);
+    if three.iter().any(|&card| card >= ways.cards()) {
+        return 14;
+    }
+    match ways.conference(three)[..] {
+        [] => {}
+        [card] => put(lent, &[1, card]),
+        _ => panic!("{three:?} have two conference cards"),
+    }
     0
 }

@@ -1,6 +1,7 @@
-//! A second implementation of planning, plan reading and walking, written from the rules alone.
+//! A second implementation of planning, plan reading, walking and conference cards, written from the rules alone.
 //! The tests compare it with the C calls, and the benchmark times it beside them.
 
+pub mod conference;
 pub mod listing;
 pub mod planner;
 pub mod plans;

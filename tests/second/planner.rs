@@ -73,11 +73,7 @@ fn check_links(cards: usize, links: &[(usize, usize)]) -> Result<(), Refusal> {
 
 /// The hops between all cards, one row for each card, or 9 or 10.
 pub fn all_hops(wiring: &Wiring) -> Result<Vec<Vec<u16>>, Refusal> {
-    let mut neighbours = vec![Vec::new(); wiring.cards];
-    for &(p, q) in &wiring.links {
-        neighbours[p].push(q);
-        neighbours[q].push(p);
-    }
+    let neighbours = neighbours(wiring);
     let home = hops_from(0, &neighbours);
     if let Some(card) = home.iter().position(|&hops| hops == UNREACHED) {
         return refuse_at(9, card);
@@ -89,8 +85,17 @@ pub fn all_hops(wiring: &Wiring) -> Result<Vec<Vec<u16>>, Refusal> {
     Ok(std::iter::once(home).chain(others).collect())
 }
 
+pub fn neighbours(wiring: &Wiring) -> Vec<Vec<usize>> {
+    let mut neighbours = vec![Vec::new(); wiring.cards];
+    for &(p, q) in &wiring.links {
+        neighbours[p].push(q);
+        neighbours[q].push(p);
+    }
+    neighbours
+}
+
 /// Breadth-first search from one card.
-fn hops_from(start: usize, neighbours: &[Vec<usize>]) -> Vec<u16> {
+pub fn hops_from(start: usize, neighbours: &[Vec<usize>]) -> Vec<u16> {
     let mut hops = vec![UNREACHED; neighbours.len()];
     let mut queue = Vec::with_capacity(neighbours.len());
     hops[start] = 0;

@@ -1,6 +1,6 @@
 //! Plan files, steps and walks.
 
-use super::planner::plan;
+use super::planner::{plan, Wiring};
 use super::{differing, ends, number, refuse, Bits, Refusal};
 use super::{MOST_CARDS, MOST_COLUMNS, MOST_LINKS};
 
@@ -56,6 +56,14 @@ impl<'a> Layout<'a> {
         match plan(&wiring) {
             Ok(plan) if plan.bytes() == file => Ok(layout),
             _ => refuse(13),
+        }
+    }
+
+    /// The wiring inside.
+    pub fn wiring(&self) -> Wiring {
+        Wiring {
+            cards: self.cards,
+            links: ends(self.firsts, self.seconds).collect(),
         }
     }
 
