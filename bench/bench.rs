@@ -2,6 +2,7 @@
 
 #[path = "../tests/calls.rs"]
 mod calls;
+#[allow(dead_code)]
 mod measured;
 #[allow(dead_code)]
 #[path = "../tests/racks/mod.rs"]

@@ -24,6 +24,13 @@ pub struct Frame {
     pub answer: [u32; 2],
 }
 
+/// Three cards, the pairs of cards whose places are counted, and the answer: the number, 1 for a card or 0 for none, the card.
+pub struct Conference {
+    pub counts: usize,
+    pub three: [u32; 3],
+    pub answer: [u32; 3],
+}
+
 /// The slowest wirings that a search found.
 const SLOWEST: [(&str, u32, &[u8]); 3] = [
     (
@@ -113,18 +120,56 @@ impl Measured {
             .collect()
     }
 
-    /// The walks between the two cards that are farthest from each other.
-    pub fn longest_walks(&self, plan: &[u8]) -> [Frame; 2] {
+    /// The hops between two cards, by their addresses.
+    fn hops(&self, plan: &[u8], p: usize, q: usize) -> u32 {
         let addresses = &plan[6 + 4 * self.rack.links.len()..];
         let width = addresses.len() / self.rack.cards;
         let row = |card: usize| &addresses[card * width..][..width];
-        let hops = |(p, q): &(usize, usize)| -> u32 {
-            let bytes = row(*p).iter().zip(row(*q));
-            bytes.map(|(x, y)| (x ^ y).count_ones()).sum()
-        };
+        let bytes = row(p).iter().zip(row(q));
+        bytes.map(|(x, y)| (x ^ y).count_ones()).sum()
+    }
+
+    /// Two cards that are farthest from each other.
+    fn farthest(&self, plan: &[u8]) -> (usize, usize) {
         let pairs = (0..self.rack.cards).flat_map(|q| (0..q).map(move |p| (p, q)));
-        let (p, q) = pairs.max_by_key(hops).expect("a rack of several cards");
-        [(p, q), (q, p)].map(|(from, to)| self.arriving(plan, from, to, hops(&(p, q))))
+        pairs
+            .max_by_key(|&(p, q)| self.hops(plan, p, q))
+            .expect("a rack of several cards")
+    }
+
+    /// The walks between two cards that are farthest from each other.
+    pub fn longest_walks(&self, plan: &[u8]) -> [Frame; 2] {
+        let (p, q) = self.farthest(plan);
+        let hops = self.hops(plan, p, q);
+        [(p, q), (q, p)].map(|(from, to)| self.arriving(plan, from, to, hops))
+    }
+
+    /// Two cards that are farthest from each other, the third for which the search for their conference card counts the
+    /// places of most pairs, that number, and the answer. A search counts two of each card, and one more of a card between the
+    /// first two.
+    pub fn worst_conference(&self, plan: &[u8]) -> Conference {
+        let (a, b) = self.farthest(plan);
+        let hops = |p: usize, q: usize| self.hops(plan, p, q);
+        let between = |p: usize, x: usize, q: usize| hops(p, x) + hops(x, q) == hops(p, q);
+        let cards = 0..self.rack.cards;
+        let conferences = cards.clone().map(|c| {
+            let met = |&x: &usize| between(a, x, b) && between(a, x, c) && between(b, x, c);
+            let card = cards.clone().find(met);
+            let searched = cards
+                .clone()
+                .take(card.map_or(self.rack.cards, |card| card + 1));
+            let counts = 3 + searched
+                .map(|x| 2 + usize::from(between(a, x, b)))
+                .sum::<usize>();
+            Conference {
+                counts,
+                three: [a, b, c].map(|card| card as u32),
+                answer: card.map_or([0; 3], |card| [0, 1, card as u32]),
+            }
+        });
+        conferences
+            .max_by_key(|conference| conference.counts)
+            .expect("a rack of several cards")
     }
 
     fn arriving(&self, plan: &[u8], from: usize, to: usize, hops: u32) -> Frame {

@@ -1,7 +1,8 @@
-//! Counts the instructions of the C calls, on what the benchmark times. `cost` makes the calls, for callgrind to count.
+//! Counts the instructions of the C calls and of conferences, on what the benchmark times. `cost` makes the calls, for callgrind to count.
 //! `cost FOLDER LIMITS` reads what was counted and holds it to a table of limits; with `--set` it writes the table.
 
 mod calls;
+mod conference;
 #[allow(dead_code)]
 #[path = "../bench/measured.rs"]
 mod measured;
@@ -10,20 +11,24 @@ mod racks;
 #[allow(dead_code)]
 mod second;
 
-use measured::Frame;
+use measured::{Frame, Measured};
 use second::{MET_BYTES, RECORD_BYTES};
 use std::fs;
 
-/// What a call is made for: the columns of the table.
+/// What a call is made for: the columns of the table, and a call before a conference that ends where its search begins.
 #[derive(Clone, Copy)]
 enum Kind {
     Planning,
     Reading,
     Step,
     Walk,
+    Conference,
+    Refused,
 }
 
-const KINDS: [&str; 4] = ["planning", "reading", "step", "walk"];
+const CARDS: u32 = 256;
+const COLUMNS: usize = 5;
+const KINDS: [&str; COLUMNS] = ["planning", "reading", "step", "walk", "conference"];
 
 impl Kind {
     fn call(self) -> &'static str {
@@ -31,6 +36,7 @@ impl Kind {
             Kind::Planning => "jolvente_write_plan",
             Kind::Reading => "jolvente_read_plan",
             Kind::Step | Kind::Walk => "jolvente_walk",
+            Kind::Conference | Kind::Refused => "test_conference_card",
         }
     }
 }
@@ -39,7 +45,7 @@ impl Kind {
 #[derive(Clone)]
 struct Row {
     name: String,
-    cells: [Option<f64>; 4],
+    cells: [Option<f64>; COLUMNS],
 }
 
 fn stop(message: &str) -> ! {
@@ -76,6 +82,7 @@ fn make_calls() -> Made {
         read(measured.name, &plan, 0, &mut made);
         walk(Kind::Step, &measured.worst_steps(&plan), &mut made);
         walk(Kind::Walk, &measured.longest_walks(&plan), &mut made);
+        confer(&measured, &plan, &mut made);
     }
     walk(Kind::Step, &[measured::stuck_at_hub()], &mut made);
     walk(Kind::Step, &measured::tangles_in_turn(), &mut made);
@@ -101,16 +108,39 @@ fn walk(kind: Kind, frames: &[Frame], made: &mut Made) {
     }
 }
 
+/// Refused with 14, the call reads the plan and does no more; so what a conference takes beside reading is the difference.
+fn confer(measured: &Measured, plan: &[u8], made: &mut Made) {
+    let worst = measured.worst_conference(plan);
+    let [a, b, _] = worst.three;
+    for (kind, three, answer) in [
+        (Kind::Refused, [a, b, CARDS], [14, 0, 0]),
+        (Kind::Conference, worst.three, worst.answer),
+    ] {
+        made.push((measured.name, kind));
+        let given = conference::conference_card(plan, three);
+        assert_eq!(given, answer, "conference: {}", measured.name);
+    }
+}
+
 /// The highest count of each row and kind. Callgrind leaves one file for each call, numbered from 1.
 fn read_counts(folder: &str, made: &[(&str, Kind)]) -> Vec<Row> {
     let mut rows: Vec<Row> = Vec::new();
+    let mut refused = 0.0;
     for (place, &(name, kind)) in made.iter().enumerate() {
-        let count = read_count(&format!("{folder}/count.{}", place + 1), kind);
+        let mut count = read_count(&format!("{folder}/count.{}", place + 1), kind);
+        match kind {
+            Kind::Refused => {
+                refused = count;
+                continue;
+            }
+            Kind::Conference => count -= refused,
+            _ => {}
+        }
         if rows.last().is_none_or(|row| row.name != name) {
             let name = name.to_string();
             rows.push(Row {
                 name,
-                cells: [None; 4],
+                cells: [None; COLUMNS],
             });
         }
         let row = rows.last_mut().expect("a row was pushed");
@@ -137,8 +167,8 @@ fn read_count(path: &str, kind: Kind) -> f64 {
 }
 
 fn table(rows: &[Row]) -> String {
-    let line = |name: &str, cells: [String; 4]| {
-        let cells: String = cells.iter().map(|cell| format!("{cell:>10}")).collect();
+    let line = |name: &str, cells: [String; COLUMNS]| {
+        let cells: String = cells.iter().map(|cell| format!("{cell:>11}")).collect();
         format!("{name:<48}{cells}\n")
     };
     let cell = |cell: Option<f64>| cell.map_or("-".to_string(), |count| format!("{count:.1}"));
@@ -156,13 +186,13 @@ fn read_table(path: &str) -> Vec<Row> {
         .collect()
 }
 
-/// A name, and four cells that are a number or `-`.
+/// A name, and a cell for each column, a number or `-`.
 fn read_row(line: &str) -> Option<Row> {
     let words: Vec<&str> = line.split_whitespace().collect();
-    let (name, cells) = words.split_at_checked(words.len().checked_sub(4)?)?;
+    let (name, cells) = words.split_at_checked(words.len().checked_sub(COLUMNS)?)?;
     let mut row = Row {
         name: name.join(" "),
-        cells: [None; 4],
+        cells: [None; COLUMNS],
     };
     for (cell, word) in row.cells.iter_mut().zip(cells) {
         if *word != "-" {
