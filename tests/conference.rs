@@ -1,7 +1,7 @@
 //! The conference call of libtest_calls.a, over a slice.
 
 extern "C" {
-    fn test_conference_card(
+    pub fn test_conference_card(
         plan: *const u8,
         plan_len: usize,
         a: u32,

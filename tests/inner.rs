@@ -1,6 +1,8 @@
 //! Compares the calls of libtest_calls.a with the second implementation: `inner [SEED] [ROUNDS]`.
 //! A round plans and lists a rack and faulty files, and makes calls on its plan, on damaged ones and on one made up.
 
+#[allow(dead_code)]
+mod conference;
 mod drawn;
 #[allow(dead_code)]
 mod faults;

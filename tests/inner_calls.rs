@@ -1,5 +1,6 @@
 //! The calls of libtest_calls.a, over slices.
 
+use crate::conference::test_conference_card;
 use crate::inner_both::{Call, Kind, Lents, Name};
 
 /// A slice as the library hands it out.
@@ -118,15 +119,6 @@ extern "C" {
         hops: u32,
         met: *mut u16,
         met_len: usize,
-        answer: *mut u32,
-        answer_len: usize,
-    ) -> u32;
-    fn test_conference_card(
-        plan: *const u8,
-        plan_len: usize,
-        a: u32,
-        b: u32,
-        c: u32,
         answer: *mut u32,
         answer_len: usize,
     ) -> u32;

@@ -16,7 +16,7 @@ use Rattle.rack.proofs.Logic.{by-eq}
 use Rattle.rack.proofs.Tables.{lowest-ext}
 use Rattle.rack.proofs.Hops.{hops-sym}
 use Rattle.rack.proofs.WiringFile.{wiring-at-cards}
-use Rattle.conference.specs.Conference.{between, median, conference, conference-refusal, Conference-says}
+use Rattle.conference.specs.Conference.{between, median, conference, three-refusal, conference-refusal, Conference-says}
 use Rattle.conference.specs.declared.Conference.{Conference}
 use Rattle.conference.proofs.Answers.{answered-inside}
 
@@ -94,7 +94,7 @@ module _ (ps : List ℕ) (a b c d e f : ℕ) (r s : Conference) (hr : Conference
 
 module _ (ps : List ℕ) (a b c : ℕ) (r s : Conference) (hr : Conference-says ps a b c r) where
   pub first-two-exchanged : Conference-says ps b a c s → r ≡ s
-  unfolding conference-refusal
+  unfolding conference-refusal three-refusal
   first-two-exchanged hs =
       let n = plan-cards ps in
       let cards = wiring-at-cards 6 ps in
@@ -102,7 +102,7 @@ module _ (ps : List ℕ) (a b c : ℕ) (r s : Conference) (hr : Conference-says 
       (λ ha hb hc. first-second (plan-wiring ps) a b c (omega arith) (omega arith) (omega arith))
 
   pub last-two-exchanged : Conference-says ps a c b s → r ≡ s
-  unfolding conference-refusal
+  unfolding conference-refusal three-refusal
   last-two-exchanged hs =
       let n = plan-cards ps in
       let cards = wiring-at-cards 6 ps in

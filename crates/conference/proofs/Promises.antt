@@ -20,10 +20,10 @@ use Rattle.reader.specs.Promises.{Measured}
 use Rattle.reader.proofs.Plan.{plan-refusal-most}
 use Rattle.reader.proofs.Promises.{read-measured}
 use Rattle.reader.proofs.Measured.{plan-embedding, plan-connected}
-use Rattle.conference.specs.Conference.{between, median, conference, conference-refusal, Conference-says, On-all-three, Card-or-none}
+use Rattle.conference.specs.Conference.{between, median, conference, three-refusal, conference-refusal, Conference-says, On-all-three, Card-or-none}
 use Rattle.conference.specs.Promises.{Between-means, Conference-promise, Conference-refused, Conference-order, Conference-repeated}
 use Rattle.conference.specs.declared.Conference.{Conference}
-use Rattle.conference.proofs.Answers.{Some-outside, no-plan, some-outside, all-inside, inside-or-outside, answered-inside}
+use Rattle.conference.proofs.Answers.{Some-outside, refused-before, some-outside, all-inside, inside-or-outside, clear-inside, answered-inside}
 use Rattle.conference.proofs.Medians.{median-tests, tests-median, median-bits, median-once}
 use Rattle.conference.proofs.Order.{first-two-exchanged, last-two-exchanged}
 use Rattle.conference.proofs.ShortestPaths.{between-on-shortest, on-shortest-between}
@@ -129,15 +129,19 @@ conference-promise ps a b c r s z =
 
 -- THE REFUSALS
 pub conference-refused : Conference-refused
-unfolding Conference-refused
+unfolding Conference-refused conference-refusal
 conference-refused ps a b c =
-    ((answered-inside ps a b c, λ (e, ha, hb, hc). all-inside ps a b c e ha hb hc), (outside, λ (e, o). some-outside ps a b c e o))
+    let x = plan-refusal ps in
+    let n = plan-cards ps in
+    ((clear-inside x n a b c, λ (e, ha, hb, hc). all-inside x n a b c e ha hb hc), (outside, λ (e, o). some-outside x n a b c e o))
   where
-    outside : conference-refusal ps a b c ≡ 14 → (plan-refusal ps ≡ 0) × Some-outside ps a b c (plan-cards ps)
+    outside : three-refusal (plan-refusal ps) (plan-cards ps) a b c ≡ 14 → (plan-refusal ps ≡ 0) × Some-outside (plan-refusal ps) (plan-cards ps) a b c
     outside h =
-        by-eq (plan-refusal ps) 0
-        (λ e. (e, inside-or-outside ps a b c (λ ha hb hc. absurd (omega (arith, h, all-inside ps a b c e ha hb hc))) (λ o. o)))
-        (λ d. absurd (omega (arith, h, no-plan ps a b c d, plan-refusal-most ps)))
+        let x = plan-refusal ps in
+        let n = plan-cards ps in
+        by-eq x 0
+        (λ e. (e, inside-or-outside x n a b c (λ ha hb hc. absurd (omega (arith, h, all-inside x n a b c e ha hb hc))) (λ o. o)))
+        (λ d. absurd (omega (arith, h, refused-before x n a b c d, plan-refusal-most ps)))
 
 -- A CARD NAMED TWICE is on the path of no links from it to itself, and at the end of every other
 named-twice : (w : Wiring) (a b : ℕ) → median w a a b a ≡ true

@@ -1,25 +1,12 @@
--- Three callers on a plan: its sizes for them, the hops between each two of them, and an answer without a card.
--- Assumes nothing: these are definitions.
+-- Three callers on a plan with the hops between each two of them, and an answer without a card. Assumes nothing: these are definitions.
 use mathlib.Core.Path.{_≡_}
 use mathlib.Core.List.{List}
 use Prim.Native.Nat.{ℕ, _<_}
 use Rattle.rack.specs.Hops.{hops}
 use Rattle.rack.specs.PlanFile.{plan-cards, plan-wiring}
 use Rattle.reader.specs.Promises.{Measured}
-use Rattle.reader.specs.Reading.{Laid-out}
-use Rattle.reader.specs.declared.layout.Sizes.{Sizes}
-use Rattle.conference.specs.Conference.{conference-refusal}
 use Rattle.conference.specs.declared.Callers.{Callers}
 use Rattle.conference.specs.declared.Conference.{Conference}
-
--- 12, 13, 14, or the sizes of a plan that was read and has all three cards
-pub record Conference-sizes (ps : List ℕ) (a b c : ℕ) (r : Sizes) : Type 0 where
-  pub number : r .number ≡ conference-refusal ps a b c
-  pub sizes : r .number ≡ 0 → Laid-out ps r
-  pub read : r .number ≡ 0 → Measured ps
-  pub first : r .number ≡ 0 → a < r .cards
-  pub second : r .number ≡ 0 → b < r .cards
-  pub third : r .number ≡ 0 → c < r .cards
 
 -- three cards of a plan that was read, with the hops between each two
 pub record Callers-are (ps : List ℕ) (s : Callers) : Type 0 where

@@ -14,7 +14,7 @@ use Rattle.rack.specs.PlanFile.{plan-cards, plan-columns, plan-wiring, plan-bit
 use Rattle.reader.specs.Plan.{plan-refusal}
 use Rattle.conference.specs.declared.Conference.{Conference}
 
--- "Lies on a shortest way between" a and b: some path of the fewest links has card x on it
+-- "lies on a shortest way between" a and b: some path of the fewest links has card x on it
 abbrev pub On-shortest : Wiring → (a x b : ℕ) → Type 0
 On-shortest w a x b = (cs : List ℕ) × (is-path w a cs b ≡ true) × (length cs ≡ hops w a b) × (any (eqb x) (a ∷ cs) ≡ true)
 
@@ -37,11 +37,13 @@ conference w a b c = lowest (w .cards) (median w a b c)
 abbrev pub majority : (x y z : Bool) → Bool
 majority x y z = cond (differ x y) z x
 
--- 12, 13, then 14: a card number is n or more
+-- a refusal that comes before it, then 14: a card number is n or more
+unfoldable pub three-refusal : (before n : ℕ) → (a b c : ℕ) → ℕ
+three-refusal x n a b c = cond (eqb x 0) (cond (leb n a || leb n b || leb n c) 14 0) x
+
+-- 12, 13, 14
 unfoldable pub conference-refusal : List ℕ → (a b c : ℕ) → ℕ
-conference-refusal ps a b c =
-    let n = plan-cards ps in
-    cond (eqb (plan-refusal ps) 0) (cond (leb n a || leb n b || leb n c) 14 0) (plan-refusal ps)
+conference-refusal ps a b c = three-refusal (plan-refusal ps) (plan-cards ps) a b c
 
 -- 1 and the card, or 0 and 0 for "none"; zeros with a refusal
 pub record Conference-says (ps : List ℕ) (a b c : ℕ) (r : Conference) : Type 0 where
@@ -49,8 +51,8 @@ pub record Conference-says (ps : List ℕ) (a b c : ℕ) (r : Conference) : Type
   pub found : r .found ≡ cond (eqb (r .number) 0) (one (ltb (conference (plan-wiring ps) a b c) (plan-cards ps))) 0
   pub card : r .card ≡ cond (eqb (r .found) 1) (conference (plan-wiring ps) a b c) 0
 
--- "That card or 'none'" on a plan that was read: a card on all three kinds of way, "never more than one", "its address takes in each
--- column the bit that at least two callers have"; "'none' is said exactly if no card lies on all three kinds of way"
+-- on a plan that was read, a card on all three kinds of way: "there is never more than one", "its address takes in each column the bit that
+-- at least two callers have"; and "'none' is said exactly if no card lies on all three kinds of way"
 pub record Card-or-none (ps : List ℕ) (a b c : ℕ) (r : Conference) : Type 0 where
   pub either : (r .found ≡ 0) ⊎ (r .found ≡ 1)
   pub inside : r .found ≡ 1 → r .card < plan-cards ps

@@ -30,13 +30,13 @@ Conference-refused =
     ((conference-refusal ps a b c ≡ 0) ↔ ((plan-refusal ps ≡ 0) × (a < n) × (b < n) × (c < n)))
     × ((conference-refusal ps a b c ≡ 14) ↔ ((plan-refusal ps ≡ 0) × ((n ≤ a) ⊎ (n ≤ b) ⊎ (n ≤ c))))
 
--- "the order of the three does not matter": each order comes from these two exchanges
+-- "The order of the three does not matter": each other order comes from these two exchanges
 unfoldable pub Conference-order : Type 0
 Conference-order =
     (ps : List ℕ) (a b c : ℕ) (r s : Conference) → Conference-says ps a b c r →
     (Conference-says ps b a c s → r ≡ s) × (Conference-says ps a c b s → r ≡ s)
 
--- "repeats allowed": a card that is named twice is the one
+-- "a card that is named twice is the one"
 unfoldable pub Conference-repeated : Type 0
 Conference-repeated =
     (ps : List ℕ) (a b : ℕ) (r : Conference) → Conference-says ps a a b r → r .number ≡ 0 → (r .found ≡ 1) × (r .card ≡ a)

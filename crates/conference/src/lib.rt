@@ -5,11 +5,10 @@ ghost use Rattle.rack.specs.Ones.{Counts};
 ghost use Rattle.rack.specs.PlanFile.{plan-wiring};
 ghost use Rattle.reader.specs.Promises.{Measured};
 ghost use Rattle.reader.specs.Reading.{Laid-out};
-ghost use Rattle.conference.specs.Callers.{Callers-are, Conference-sizes, no-card};
-ghost use Rattle.conference.specs.Conference.{Card-or-none, Conference-says, conference, median};
+ghost use Rattle.conference.specs.Callers.{Callers-are, no-card};
+ghost use Rattle.conference.specs.Conference.{Card-or-none, Conference-says, conference, median, three-refusal};
 use rack::ones::ones_table;
 use reader::layout::Sizes;
-use reader::layout::no_sizes;
 use reader::places::plan_hamming;
 use reader::read::read_plan;
 
@@ -81,24 +80,23 @@ fn no_card(number: u32) -> Conference
     }
 }
 
-// The sizes of a plan that was read and has all three cards: 12, 13, 14.
-fn conference_sizes(plan: &[u8], a: u32, b: u32, c: u32) -> Sizes
-    ensures { λ r. ⌜ Conference-sizes (now (plan .entry)) a b c r ⌝ }
+// The number that reading gave with these sizes, or 14, or 0.
+fn three_refusal(sizes: Sizes, a: u32, b: u32, c: u32) -> u32
+    ensures { λ r. ⌜ r ≡ three-refusal (sizes .number) (sizes .cards) a b c ⌝ }
 {
-    let sizes = read_plan(plan);
     if sizes.number != 0 {
-        return sizes;
+        return sizes.number;
     }
     if sizes.cards <= a {
-        return no_sizes(14);
+        return 14;
     }
     if sizes.cards <= b {
-        return no_sizes(14);
+        return 14;
     }
     if sizes.cards <= c {
-        return no_sizes(14);
+        return 14;
     }
-    sizes
+    0
 }
 
 // The card that is on a shortest path between each two of three cards, or none: 12, 13, 14.
@@ -106,9 +104,10 @@ pub fn conference_card(plan: &[u8], a: u32, b: u32, c: u32) -> Conference
     ensures says { λ r. ⌜ Conference-says (now (plan .entry)) a b c r ⌝ }
     ensures promise { λ r. ⌜ (r .number ≡ 0 → Card-or-none (now (plan .entry)) a b c r) ⌝ }
 {
-    let sizes = conference_sizes(plan, a, b, c);
-    if sizes.number != 0 {
-        return no_card(sizes.number);
+    let sizes = read_plan(plan);
+    let number = three_refusal(sizes, a, b, c);
+    if number != 0 {
+        return no_card(number);
     }
     let ones = ones_table();
     let card = lowest_median(&ones, plan, sizes, a as usize, b as usize, c as usize);

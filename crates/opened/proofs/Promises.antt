@@ -15,7 +15,7 @@ use Rattle.reader.specs.Promises.{Refused-address-empty, No-such-card}
 use Rattle.reader.specs.Reading.{layout-refusal, address-part, address-refusal}
 use Rattle.reader.proofs.Promises.{read-measured, refused-address-empty, no-such-card}
 use Rattle.forwarder.specs.Calls.{step-refusal, walk-refusal}
-use Rattle.conference.specs.Conference.{conference-refusal, Conference-says}
+use Rattle.conference.specs.Conference.{three-refusal, conference-refusal, Conference-says}
 use Rattle.opened.specs.Opening.{carries, opened-bytes, Opening-says, Walk-with-arrival}
 use Rattle.opened.specs.Promises.{Sizes-carried, Carries-exactly, Opening-whole, Twelve-in-every-call, Refused-opening, Other-sizes}
 use Rattle.opened.specs.Promises.{Refused-opening-empty, Opened-frame-arrives, Opened-conference-own, Opened-address-own, Opened-address-refused}
@@ -24,7 +24,7 @@ use Rattle.opened.proofs.Carrying.{carried-bytes-whole, carried-bytes-n
 
 -- NO BYTES are 12 in every call
 no-bytes-twelve : Twelve-in-every-call []
-unfolding plan-refusal layout-refusal layout-holds address-refusal address-part step-refusal walk-refusal conference-refusal
+unfolding plan-refusal layout-refusal layout-holds address-refusal address-part step-refusal walk-refusal conference-refusal three-refusal
 no-bytes-twelve =
     record {
       read = refl;

@@ -19,7 +19,7 @@ use Rattle.reader.specs.Plan.{layout-holds, content-holds, plan-refusal}
 use Rattle.reader.specs.Reading.{layout-refusal}
 use Rattle.forwarder.specs.Forwarding.{leads-nearer, step, walk-from, walk}
 use Rattle.forwarder.specs.Calls.{step-refusal, walk-hops, takes, walk-refusal}
-use Rattle.conference.specs.Conference.{between, median, conference, conference-refusal}
+use Rattle.conference.specs.Conference.{between, median, conference, three-refusal, conference-refusal}
 use Rattle.text.specs.Decimals.{digits, decimal}
 use Rattle.listing_text.specs.Listing.{cards-word, links-word, columns-word, card-word, refused-word, at-link, at-card, space, dash, line-end}
 use Rattle.listing_text.specs.Listing.{number-line, address-text, card-line, size-lines, rack-lines, rack-text, names-link, place-text, refused-text, listing}
@@ -45,7 +45,7 @@ unfolding cases required-cases size-cases link-cases rack-cases plan-cases call-
     number-at two-bytes wiring-at sizes-fault form-refusal file-refusal end-bytes file-bytes address-size address-bytes
     plan-bytes
     layout-holds content-holds plan-refusal layout-refusal plan-bit plan-hamming leads-nearer step walk-from walk
-    walk-hops step-refusal takes walk-refusal between median conference conference-refusal digits decimal
+    walk-hops step-refusal takes walk-refusal between median conference three-refusal conference-refusal digits decimal
     cards-word links-word columns-word card-word refused-word at-link at-card space dash line-end number-line address-text
     card-line size-lines rack-lines rack-text names-link place-text refused-text listing
 none-fails = (tt, tt)

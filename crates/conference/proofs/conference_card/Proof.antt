@@ -7,7 +7,7 @@ use borrow.Author.Needs.{needs}
 use Rattle.conference.specs.Conference.{Conference-says, Card-or-none}
 use Rattle.conference.specs.Promises.{Conference-promise}
 use Rattle.conference.specs.declared.Conference.{Conference}
-use Rattle.conference.proofs.Answers.{says-refused, says-none, says-found}
+use Rattle.conference.proofs.Answers.{was-read, laid-out, cards-inside, says-refused, says-none, says-found}
 use Rattle.conference.proofs.Promises.{conference-promise}
 use Rattle.conference.proofs.conference_card.Statement.{statement}
 use Rattle.conference.proofs.conference_card.Tie as tie
@@ -17,49 +17,63 @@ with-promise : (ps : List ℕ) (a b c : ℕ) (r : Conference) → Conference-say
 unfolding Conference-promise
 with-promise ps a b c r s = (s, conference-promise ps a b c r s)
 
-conference-sizes-requires : tie.Need-conference-sizes-requires
-conference-sizes-requires c κs = search needs
+read-plan-requires : tie.Need-read-plan-requires
+read-plan-requires c κs = search needs
+
+three-refusal-requires : tie.Need-three-refusal-requires
+three-refusal-requires c κs = search needs
 
 no-card-requires : tie.Need-no-card-requires
 no-card-requires c κs = search needs
 
 returns : tie.Need-returns
 returns c =
+    let at-refusal = c .before .before in
     with-promise _ _ _ _ _
-    (says-refused _ _ _ _ _ (c .before .before .before .conference-sizes .ensures) _ (λ e. omega arith) (c .no-card .ensures))
+    (says-refused _ _ _ _ _ (at-refusal .before .read-plan .ensures .0) _ (at-refusal .three-refusal .ensures) _ (λ e. omega arith) (c .no-card .ensures))
 
 ones-table-requires : tie.Need-ones-table-requires
 ones-table-requires c κs = search needs
 
 lowest-median-requires : tie.Need-lowest-median-requires
 lowest-median-requires c κs =
-    let s = c .before .before .before .before .conference-sizes .ensures in
-    (c .before .ones-table .ensures, s .sizes (omega arith), s .read (omega arith), s .first (omega arith), s .second (omega arith), s .third (omega arith))
+    let at-refusal = c .before .before .before in
+    let read = at-refusal .before .read-plan .ensures in
+    let clear = at-refusal .three-refusal .ensures in
+    let i = cards-inside _ _ _ _ _ (read .0) _ clear (omega arith) in (
+      c .before .ones-table .ensures,
+      laid-out _ _ _ _ _ (read .0) _ clear (omega arith),
+      read .1 (was-read _ _ _ _ _ (read .0) _ clear (omega arith)),
+      i .0,
+      i .1,
+      i .2,
+    )
 
 no-card-requires-2 : tie.Need-no-card-requires-2
 no-card-requires-2 c κs = search needs
 
 returns-2 : tie.Need-returns-2
 returns-2 c =
-    let at-lowest-median = c .before .before .before in
-    let at-conference-sizes = at-lowest-median .before .before .before .before .before in
+    let at-median = c .before .before .before in
+    let at-refusal = at-median .before .before .before .before in
     with-promise _ _ _ _ _
-    (says-none _ _ _ _ _ (at-conference-sizes .conference-sizes .ensures) (omega arith) _
-    (at-lowest-median .lowest-median .ensures) _ (omega arith) (c .no-card2 .ensures))
+    (says-none _ _ _ _ _ (at-refusal .before .read-plan .ensures .0) _ (at-refusal .three-refusal .ensures) (omega arith) _
+    (at-median .lowest-median .ensures) _ (omega arith) (c .no-card2 .ensures))
 
 returns-3 : tie.Need-returns-3
 returns-3 c =
-    let at-lowest-median = c .before .before in
-    let at-conference-sizes = at-lowest-median .before .before .before .before .before in
+    let at-median = c .before .before in
+    let at-refusal = at-median .before .before .before .before in
     with-promise _ _ _ _ _
-    (says-found _ _ _ _ _ (at-conference-sizes .conference-sizes .ensures) (omega arith) _
-    (at-lowest-median .lowest-median .ensures) (omega arith))
+    (says-found _ _ _ _ _ (at-refusal .before .read-plan .ensures .0) _ (at-refusal .three-refusal .ensures) (omega arith) _
+    (at-median .lowest-median .ensures) (omega arith))
 
 pub conference-card-spec : {M : Type 1} → statement M
 conference-card-spec =
     tie.close
     (tie.spec
-    conference-sizes-requires
+    read-plan-requires
+    three-refusal-requires
     no-card-requires
     returns
     ones-table-requires
