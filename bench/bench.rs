@@ -2,7 +2,6 @@
 
 #[path = "../tests/calls.rs"]
 mod calls;
-#[allow(dead_code)]
 mod measured;
 #[allow(dead_code)]
 #[path = "../tests/racks/mod.rs"]

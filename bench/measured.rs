@@ -25,6 +25,7 @@ pub struct Frame {
 }
 
 /// Three cards, the pairs of cards whose places are counted, and the answer: the number, 1 for a card or 0 for none, the card.
+#[allow(dead_code)]
 pub struct Conference {
     pub counts: usize,
     pub three: [u32; 3],
@@ -147,14 +148,15 @@ impl Measured {
     /// Two cards that are farthest from each other, the third for which the search for their conference card counts the
     /// places of most pairs, that number, and the answer. A search counts two of each card, and one more of a card between the
     /// first two.
+    #[allow(dead_code)]
     pub fn worst_conference(&self, plan: &[u8]) -> Conference {
         let (a, b) = self.farthest(plan);
         let hops = |p: usize, q: usize| self.hops(plan, p, q);
         let between = |p: usize, x: usize, q: usize| hops(p, x) + hops(x, q) == hops(p, q);
         let cards = 0..self.rack.cards;
         let conferences = cards.clone().map(|c| {
-            let met = |&x: &usize| between(a, x, b) && between(a, x, c) && between(b, x, c);
-            let card = cards.clone().find(met);
+            let is_median = |&x: &usize| between(a, x, b) && between(a, x, c) && between(b, x, c);
+            let card = cards.clone().find(is_median);
             let searched = cards
                 .clone()
                 .take(card.map_or(self.rack.cards, |card| card + 1));

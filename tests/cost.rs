@@ -108,7 +108,8 @@ fn walk(kind: Kind, frames: &[Frame], made: &mut Made) {
     }
 }
 
-/// Refused with 14, the call reads the plan and does no more; so what a conference takes beside reading is the difference.
+/// Refused with 14, the call reads the plan and does no more (`check_reading`); so what a conference takes beside reading is
+/// the difference.
 fn confer(measured: &Measured, plan: &[u8], made: &mut Made) {
     let worst = measured.worst_conference(plan);
     let [a, b, _] = worst.three;
@@ -130,6 +131,7 @@ fn read_counts(folder: &str, made: &[(&str, Kind)]) -> Vec<Row> {
         let mut count = read_count(&format!("{folder}/count.{}", place + 1), kind);
         match kind {
             Kind::Refused => {
+                check_reading(rows.last(), count);
                 refused = count;
                 continue;
             }
@@ -151,6 +153,18 @@ fn read_counts(folder: &str, made: &[(&str, Kind)]) -> Vec<Row> {
         stop("callgrind counted more calls than were made");
     }
     rows
+}
+
+/// A refused conference takes what reading the same plan takes, but for a tenth.
+fn check_reading(row: Option<&Row>, refused: f64) {
+    let name = row.map_or("", |row| &row.name);
+    let reading = row.and_then(|row| row.cells[Kind::Reading as usize]);
+    let reading = reading.unwrap_or_default();
+    if refused > 1.1 * reading {
+        stop(&format!(
+            "{name}: reading took {reading:.1}, a refused conference {refused:.1}"
+        ));
+    }
 }
 
 fn read_count(path: &str, kind: Kind) -> f64 {

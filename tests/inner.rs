@@ -1,5 +1,6 @@
 //! Compares the calls of libtest_calls.a with the second implementation: `inner [SEED] [ROUNDS]`.
-//! A round plans and lists a rack and faulty files, and makes calls on its plan, on damaged ones and on one made up.
+//! A round plans and lists a rack and faulty files, makes calls on its plan, on damaged ones and on one made up, and lets the
+//! rack's cards confer.
 
 #[allow(dead_code)]
 mod conference;

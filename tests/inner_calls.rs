@@ -136,61 +136,104 @@ extern "C" {
     ) -> u32;
 }
 
-/// The library's answer. A part is told by how far behind the input's first byte it begins.
+/// The library's answer.
 pub fn ask(call: &Call, input: &[u8], lent: &mut Lents) -> u32 {
-    let (start, long) = (input.as_ptr(), input.len());
-    let Call {
-        from, goal, third, ..
-    } = *call;
-    let ([n, m, k], [frames, hops]) = (call.sizes, call.counts);
+    match call.name.kind() {
+        Kind::Plan | Kind::Listing => plan_or_list(call.name, input, lent),
+        Kind::Address => address(call, input, lent),
+        Kind::Sizes | Kind::Step | Kind::Conference => fields(call, input, lent),
+        Kind::Walk => walk(call, input, lent),
+    }
+}
+
+fn not_of_its_kind(name: Name) -> ! {
+    panic!("{name:?} is of another kind")
+}
+
+fn plan_or_list(name: Name, file: &[u8], lent: &mut Lents) -> u32 {
+    let (start, long) = (file.as_ptr(), file.len());
+    let words = lent.words.items_mut();
+    let (words, words_len) = (words.as_mut_ptr(), words.len());
+    let bytes = lent.bytes.items_mut();
+    let (bytes, bytes_len) = (bytes.as_mut_ptr(), bytes.len());
+    let fields = lent.fields.items_mut();
+    let (fields, count) = (fields.as_mut_ptr(), fields.len());
+    unsafe {
+        match name {
+            Name::PlanRack => test_plan_rack(
+                start, long, words, words_len, bytes, bytes_len, fields, count,
+            ),
+            Name::ListingText => test_listing_text(start, long, bytes, bytes_len, fields, count),
+            name => not_of_its_kind(name),
+        }
+    }
+}
+
+/// A part is told by how far behind the input's first byte it begins.
+fn address(call: &Call, plan: &[u8], lent: &mut Lents) -> u32 {
+    let (start, long) = (plan.as_ptr(), plan.len());
+    let ([n, m, k], card) = (call.sizes, call.from);
     let nowhere = &[0u8];
     let mut part = Part {
         start: nowhere.as_ptr(),
         length: nowhere.len(),
     };
-    let words = lent.words.items_mut();
-    let (words, words_len) = (words.as_mut_ptr(), words.len());
-    let bytes = lent.bytes.items_mut();
-    let (bytes, bytes_len) = (bytes.as_mut_ptr(), bytes.len());
+    let number = unsafe {
+        match call.name {
+            Name::CardAddress => test_card_address(start, long, card, &mut part),
+            Name::AddressCarried => {
+                test_address_carried(start, long, n, m, k, card, &mut part);
+                test_address_refusal_carried(start, long, n, m, k, card)
+            }
+            name => not_of_its_kind(name),
+        }
+    };
+    let offset = (part.start as usize).wrapping_sub(start as usize);
+    lent.part = Some((offset, part.length));
+    number
+}
+
+/// Calls that are lent nothing besides the answer's fields.
+fn fields(call: &Call, plan: &[u8], lent: &mut Lents) -> u32 {
+    let (start, long) = (plan.as_ptr(), plan.len());
+    let ([n, m, k], a, b, c) = (call.sizes, call.from, call.goal, call.third);
+    let fields = lent.fields.items_mut();
+    let (fields, count) = (fields.as_mut_ptr(), fields.len());
+    unsafe {
+        match call.name {
+            Name::ReadCarried => test_read_carried(start, long, n, m, k, fields, count),
+            Name::StepFrame => test_step_frame(start, long, a, b, fields, count),
+            Name::StepCarried => test_step_carried(start, long, n, m, k, a, b, fields, count),
+            Name::OpenedStep => test_opened_step(start, long, a, b, fields, count),
+            Name::ConferenceCard => test_conference_card(start, long, a, b, c, fields, count),
+            Name::ConferenceCarried => {
+                test_conference_carried(start, long, n, m, k, a, b, c, fields, count)
+            }
+            name => not_of_its_kind(name),
+        }
+    }
+}
+
+fn walk(call: &Call, plan: &[u8], lent: &mut Lents) -> u32 {
+    let (start, long) = (plan.as_ptr(), plan.len());
+    let Call { from, goal, .. } = *call;
+    let ([n, m, k], [frames, hops]) = (call.sizes, call.counts);
     let met = lent.met.items_mut();
     let (met, met_len) = (met.as_mut_ptr(), met.len());
     let fields = lent.fields.items_mut();
     let (fields, count) = (fields.as_mut_ptr(), fields.len());
-    let number = unsafe {
+    unsafe {
         match call.name {
-            Name::PlanRack => test_plan_rack(
-                start, long, words, words_len, bytes, bytes_len, fields, count,
-            ),
-            Name::ListingText => test_listing_text(start, long, bytes, bytes_len, fields, count),
-            Name::CardAddress => test_card_address(start, long, from, &mut part),
-            Name::StepFrame => test_step_frame(start, long, from, goal, fields, count),
             Name::WalkFrame => test_walk_frame(
                 start, long, from, goal, frames, hops, met, met_len, fields, count,
             ),
-            Name::ReadCarried => test_read_carried(start, long, n, m, k, fields, count),
-            Name::AddressCarried => {
-                test_address_carried(start, long, n, m, k, from, &mut part);
-                test_address_refusal_carried(start, long, n, m, k, from)
-            }
-            Name::StepCarried => test_step_carried(start, long, n, m, k, from, goal, fields, count),
             Name::WalkCarried => test_walk_carried(
                 start, long, n, m, k, from, goal, frames, hops, met, met_len, fields, count,
             ),
-            Name::OpenedStep => test_opened_step(start, long, from, goal, fields, count),
             Name::OpenedWalk => test_opened_walk(
                 start, long, from, goal, frames, hops, met, met_len, fields, count,
             ),
-            Name::ConferenceCard => {
-                test_conference_card(start, long, from, goal, third, fields, count)
-            }
-            Name::ConferenceCarried => {
-                test_conference_carried(start, long, n, m, k, from, goal, third, fields, count)
-            }
+            name => not_of_its_kind(name),
         }
-    };
-    if call.name.kind() == Kind::Address {
-        let offset = (part.start as usize).wrapping_sub(start as usize);
-        lent.part = Some((offset, part.length));
     }
-    number
 }

@@ -1,5 +1,5 @@
 //! A second implementation of planning, plan reading, walking and conference cards, written from the rules alone.
-//! The tests compare it with the C calls, and the benchmark times it beside them.
+//! The tests compare it with the calls, and the benchmark times it beside those for C.
 
 pub mod conference;
 pub mod listing;

@@ -60,9 +60,6 @@ module _ (r s : Conference) (number : r .number ≡ s .number) (found : r .found
   unfolding answer
   same-answer = same-fields
 
-abbrev met : List ℕ → (a b c : ℕ) → ℕ
-met ps a b c = conference (plan-wiring ps) a b c
-
 refused-zeros : (ps : List ℕ) (a b c : ℕ) (r : Conference) → Conference-says ps a b c r → r .number ≢ 0
     → (r .found ≡ 0) × (r .card ≡ 0)
 refused-zeros ps a b c r says n =
@@ -75,7 +72,7 @@ module _ (ps : List ℕ) (a b c d e f : ℕ) (r s : Conference) (hr : Conference
   numbers : r .number ≡ s .number
   numbers = hr .number ∙ refusals ∙ sym (hs .number)
 
-  alike-answered : met ps a b c ≡ met ps d e f → r ≡ s
+  alike-answered : conference (plan-wiring ps) a b c ≡ conference (plan-wiring ps) d e f → r ≡ s
   alike-answered g =
       let found = hr .found ∙ ap₂ (λ (x y : ℕ). cond (eqb x 0) (one (ltb y (plan-cards ps))) 0) numbers g ∙ sym (hs .found) in
       same-answer r s numbers found (hr .card ∙ ap₂ (λ (x y : ℕ). cond (eqb x 1) y 0) found g ∙ sym (hs .card))
@@ -86,7 +83,7 @@ module _ (ps : List ℕ) (a b c d e f : ℕ) (r s : Conference) (hr : Conference
       let y = refused-zeros ps d e f s hs (λ z. n (numbers ∙ z)) in
       same-answer r s numbers (x .0 ∙ sym (y .0)) (x .1 ∙ sym (y .1))
 
-  alike : (a < plan-cards ps → b < plan-cards ps → c < plan-cards ps → met ps a b c ≡ met ps d e f) → r ≡ s
+  alike : (a < plan-cards ps → b < plan-cards ps → c < plan-cards ps → conference (plan-wiring ps) a b c ≡ conference (plan-wiring ps) d e f) → r ≡ s
   alike g =
       by-eq (r .number) 0
       (λ z. let i = answered-inside ps a b c (sym (hr .number) ∙ z) in alike-answered (g (i .1) (i .2) (i .3)))

@@ -37,8 +37,8 @@ module _ (ps : List ℕ) (a b c : ℕ) (r : Conference) (s : Conference-says ps 
   abbrev w : Wiring
   w = plan-wiring ps
 
-  abbrev met : ℕ
-  met = conference w a b c
+  abbrev median-card : ℕ
+  median-card = conference w a b c
 
   abbrev n : ℕ
   n = plan-cards ps
@@ -52,7 +52,7 @@ module _ (ps : List ℕ) (a b c : ℕ) (r : Conference) (s : Conference-says ps 
   card : (x : ℕ) → x < n → x < w .cards
   card x h = omega (arith, wiring-at-cards 6 ps)
 
-  found : r .found ≡ one (ltb met n)
+  found : r .found ≡ one (ltb median-card n)
   found = s .found ∙ rw (eq-eqb (r .number) 0 z) refl
 
   -- the test and its meaning
@@ -72,16 +72,16 @@ module _ (ps : List ℕ) (a b c : ℕ) (r : Conference) (s : Conference-says ps 
   passes : (x : ℕ) → On-all-three w a b c x → median w a b c x ≡ true
   passes x (p, q, t) = tests-median w a b c x (on-shortest-between w a x b p, on-shortest-between w a x c q, on-shortest-between w b x c t)
 
-  module _ (l : met < n) where
+  module _ (l : median-card < n) where
     is-found : r .found ≡ 1
-    is-found = found ∙ ap one (lt-ltb met n l)
+    is-found = found ∙ ap one (lt-ltb median-card n l)
 
-    is-met : r .card ≡ met
-    is-met = s .card ∙ rw is-found refl
+    is-median-card : r .card ≡ median-card
+    is-median-card = s .card ∙ rw is-found refl
 
-    met-passes : median w a b c met ≡ true
+    median-card-passes : median w a b c median-card ≡ true
     unfolding conference
-    met-passes = lowest-passes (w .cards) (median w a b c) (card met l)
+    median-card-passes = lowest-passes (w .cards) (median w a b c) (card median-card l)
 
     some-card : Card-or-none ps a b c r
     some-card =
@@ -90,19 +90,19 @@ module _ (ps : List ℕ) (a b c : ℕ) (r : Conference) (s : Conference-says ps 
         let ha = card a (inside .1) in
         let hb = card b (inside .2) in
         let hc = card c (inside .3) in
-        let all = on-all met l met-passes in
+        let all = on-all median-card l median-card-passes in
         record {
           either = inr is-found;
-          inside = λ e. omega (arith, is-met);
-          on-all = λ e. rw is-met all;
-          only = λ e x hx o. median-once w k (plan-bit ps) m a b c ha hb hc x met (card x hx) (card met l) (passes x o) met-passes ∙ sym is-met;
-          bits = λ e j hj. rw is-met (median-bits w k (plan-bit ps) m a b c ha hb hc met (card met l) met-passes j hj);
-          none = ((λ e. absurd (omega (arith, is-found))), λ never. absurd (never met l all));
+          inside = λ e. omega (arith, is-median-card);
+          on-all = λ e. rw is-median-card all;
+          only = λ e x hx o. median-once w k (plan-bit ps) m a b c ha hb hc x median-card (card x hx) (card median-card l) (passes x o) median-card-passes ∙ sym is-median-card;
+          bits = λ e j hj. rw is-median-card (median-bits w k (plan-bit ps) m a b c ha hb hc median-card (card median-card l) median-card-passes j hj);
+          none = ((λ e. absurd (omega (arith, is-found))), λ never. absurd (never median-card l all));
         }
 
-  module _ (l : n ≤ met) where
+  module _ (l : n ≤ median-card) where
     not-found : r .found ≡ 0
-    not-found = found ∙ ap one (le-ltb met n l)
+    not-found = found ∙ ap one (le-ltb median-card n l)
 
     no-median : (x : ℕ) → x < n → median w a b c x ≡ false
     unfolding conference
@@ -125,15 +125,18 @@ module _ (ps : List ℕ) (a b c : ℕ) (r : Conference) (s : Conference-says ps 
 pub conference-promise : Conference-promise
 unfolding Conference-promise
 conference-promise ps a b c r s z =
-    by-lt (met ps a b c r s z) (plan-cards ps) (some-card ps a b c r s z) (no-card ps a b c r s z)
+    by-lt (median-card ps a b c r s z) (plan-cards ps) (some-card ps a b c r s z) (no-card ps a b c r s z)
 
 -- THE REFUSALS
 pub conference-refused : Conference-refused
 unfolding Conference-refused conference-refusal
 conference-refused ps a b c =
     let x = plan-refusal ps in
-    let n = plan-cards ps in
-    ((clear-inside x n a b c, λ (e, ha, hb, hc). all-inside x n a b c e ha hb hc), (outside, λ (e, o). some-outside x n a b c e o))
+    let n = plan-cards ps in (
+      (clear-inside x n a b c, λ (e, ha, hb, hc). all-inside x n a b c e ha hb hc),
+      (outside, λ (e, o). some-outside x n a b c e o),
+      refused-before x n a b c,
+    )
   where
     outside : three-refusal (plan-refusal ps) (plan-cards ps) a b c ≡ 14 → (plan-refusal ps ≡ 0) × Some-outside (plan-refusal ps) (plan-cards ps) a b c
     outside h =

@@ -18,7 +18,7 @@ use Rattle.conference.specs.declared.Conference.{Conference}
 abbrev pub On-shortest : Wiring → (a x b : ℕ) → Type 0
 On-shortest w a x b = (cs : List ℕ) × (is-path w a cs b ≡ true) × (length cs ≡ hops w a b) × (any (eqb x) (a ∷ cs) ≡ true)
 
--- ".. between each two of them"
+-- .. "between each two of them"
 abbrev pub On-all-three : Wiring → (a b c x : ℕ) → Type 0
 On-all-three w a b c x = On-shortest w a x b × On-shortest w a x c × On-shortest w b x c
 

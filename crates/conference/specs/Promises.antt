@@ -1,7 +1,7 @@
 -- What is promised of a conference card. Each statement is proved in proofs/Promises.antt under its name. Quotations: docs/REQUIREMENTS.md.
 use mathlib.Core.Path.{_≡_}
 use mathlib.Core.Bool.{true}
-use mathlib.Core.Logic.{_⊎_, _↔_}
+use mathlib.Core.Logic.{_⊎_, _↔_, _≢_}
 use mathlib.Core.List.{List}
 use Prim.Native.Nat.{ℕ, _≤_, _<_}
 use Rattle.rack.specs.Wiring.{Wiring}
@@ -22,13 +22,15 @@ unfoldable pub Conference-promise : Type 0
 Conference-promise =
     (ps : List ℕ) (a b c : ℕ) (r : Conference) → Conference-says ps a b c r → r .number ≡ 0 → Card-or-none ps a b c r
 
--- an answer is given exactly to three cards of a plan that was read, and 14 exactly where one of the numbers is n or more
+-- an answer is given exactly to three cards of a plan that was read, and 14 exactly where one of the numbers is n or more; 12 and 13 are
+-- those of reading
 unfoldable pub Conference-refused : Type 0
 Conference-refused =
     (ps : List ℕ) (a b c : ℕ) →
     let n = plan-cards ps in
     ((conference-refusal ps a b c ≡ 0) ↔ ((plan-refusal ps ≡ 0) × (a < n) × (b < n) × (c < n)))
     × ((conference-refusal ps a b c ≡ 14) ↔ ((plan-refusal ps ≡ 0) × ((n ≤ a) ⊎ (n ≤ b) ⊎ (n ≤ c))))
+    × (plan-refusal ps ≢ 0 → conference-refusal ps a b c ≡ plan-refusal ps)
 
 -- "The order of the three does not matter": each other order comes from these two exchanges
 unfoldable pub Conference-order : Type 0

@@ -54,7 +54,7 @@ Largest-plan = (ps : List ℕ) → layout-holds ps ≡ true → length ps ≤ 16
 unfoldable pub Address-fits : Type 0
 Address-fits = (k : ℕ) → (k ≤ 8 * address-size k) × (8 * address-size k < k + 8)
 
--- all that forwarding leans on, with no word of the planner: a plan with a layout, links between its cards,
+-- all that forwarding and conferences lean on, with no word of the planner: a plan with a layout, links between its cards,
 -- a path from each card to each, and addresses that differ in as many places as there are hops
 pub record Measured (ps : List ℕ) : Type 0 where
   pub layout : layout-holds ps ≡ true
