@@ -17,16 +17,21 @@ use Rattle.conference.specs.Conference.{conference, three-refusal, confe
 use Rattle.conference.specs.Callers.{no-card}
 use Rattle.conference.specs.declared.Conference.{Conference}
 
+-- all three are below n, or some one is not
+abbrev pub Some-outside : (n a b c : ℕ) → Type 0
+Some-outside n a b c = (n ≤ a) ⊎ (n ≤ b) ⊎ (n ≤ c)
+
+pub inside-or-outside : {C : Type 0} (n a b c : ℕ) → (a < n → b < n → c < n → C) → (Some-outside n a b c → C) → C
+inside-or-outside n a b c i o =
+    by-lt a n (λ ha. by-lt b n (λ hb. by-lt c n (i ha hb) (λ h. o (inr (inr h)))) (λ h. o (inr (inl h)))) (λ h. o (inl h))
+
 -- THE NUMBER: the refusal before it, 14 or none
 module _ (x n a b c : ℕ) where
-  abbrev pub Some-outside : Type 0
-  Some-outside = (n ≤ a) ⊎ (n ≤ b) ⊎ (n ≤ c)
-
   pub refused-before : x ≢ 0 → three-refusal x n a b c ≡ x
   unfolding three-refusal
   refused-before d = rw (ne-eqb x 0 d) refl
 
-  pub some-outside : x ≡ 0 → Some-outside → three-refusal x n a b c ≡ 14
+  pub some-outside : x ≡ 0 → Some-outside n a b c → three-refusal x n a b c ≡ 14
   unfolding three-refusal
   some-outside e (inl h) = rw (eq-eqb x 0 e, le-leb n a h) refl
   some-outside e (inr (inl h)) = rw (eq-eqb x 0 e, or-right (leb n a) (leb n b) (le-leb n b h)) refl
@@ -36,14 +41,10 @@ module _ (x n a b c : ℕ) where
   unfolding three-refusal
   all-inside e ha hb hc = rw (eq-eqb x 0 e, lt-leb n a ha, lt-leb n b hb, lt-leb n c hc) refl
 
-  pub inside-or-outside : {C : Type 0} → (a < n → b < n → c < n → C) → (Some-outside → C) → C
-  inside-or-outside i o =
-      by-lt a n (λ ha. by-lt b n (λ hb. by-lt c n (i ha hb) (λ h. o (inr (inr h)))) (λ h. o (inr (inl h)))) (λ h. o (inl h))
-
   pub clear-inside : three-refusal x n a b c ≡ 0 → (x ≡ 0) × (a < n) × (b < n) × (c < n)
   clear-inside z =
       by-eq x 0
-      (λ e. inside-or-outside (λ ha hb hc. (e, ha, hb, hc)) (λ o. let f = some-outside e o in absurd (omega arith)))
+      (λ e. inside-or-outside n a b c (λ ha hb hc. (e, ha, hb, hc)) (λ o. let f = some-outside e o in absurd (omega arith)))
       (λ d. absurd (d (sym (refused-before d) ∙ z)))
 
 module _ (ps : List ℕ) (a b c : ℕ) where

@@ -83,7 +83,8 @@ module _ (ps : List ℕ) (a b c d e f : ℕ) (r s : Conference) (hr : Conference
       let y = refused-zeros ps d e f s hs (λ z. n (numbers ∙ z)) in
       same-answer r s numbers (x .0 ∙ sym (y .0)) (x .1 ∙ sym (y .1))
 
-  alike : (a < plan-cards ps → b < plan-cards ps → c < plan-cards ps → conference (plan-wiring ps) a b c ≡ conference (plan-wiring ps) d e f) → r ≡ s
+  alike : (a < plan-cards ps → b < plan-cards ps → c < plan-cards ps
+      → conference (plan-wiring ps) a b c ≡ conference (plan-wiring ps) d e f) → r ≡ s
   alike g =
       by-eq (r .number) 0
       (λ z. let i = answered-inside ps a b c (sym (hr .number) ∙ z) in alike-answered (g (i .1) (i .2) (i .3)))

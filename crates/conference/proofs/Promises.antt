@@ -20,7 +20,8 @@ use Rattle.reader.specs.Promises.{Measured}
 use Rattle.reader.proofs.Plan.{plan-refusal-most}
 use Rattle.reader.proofs.Promises.{read-measured}
 use Rattle.reader.proofs.Measured.{plan-embedding, plan-connected}
-use Rattle.conference.specs.Conference.{between, median, conference, three-refusal, conference-refusal, Conference-says, On-all-three, Card-or-none}
+use Rattle.conference.specs.Conference.{On-all-three, between, median, conference, majority}
+use Rattle.conference.specs.Conference.{three-refusal, conference-refusal, Conference-says, Card-or-none}
 use Rattle.conference.specs.Promises.{Between-means, Conference-promise, Conference-refused, Conference-order, Conference-repeated}
 use Rattle.conference.specs.declared.Conference.{Conference}
 use Rattle.conference.proofs.Answers.{Some-outside, refused-before, some-outside, all-inside, inside-or-outside, clear-inside, answered-inside}
@@ -37,8 +38,8 @@ module _ (ps : List ℕ) (a b c : ℕ) (r : Conference) (s : Conference-says ps 
   abbrev w : Wiring
   w = plan-wiring ps
 
-  abbrev median-card : ℕ
-  median-card = conference w a b c
+  abbrev lowest-median : ℕ
+  lowest-median = conference w a b c
 
   abbrev n : ℕ
   n = plan-cards ps
@@ -52,7 +53,7 @@ module _ (ps : List ℕ) (a b c : ℕ) (r : Conference) (s : Conference-says ps 
   card : (x : ℕ) → x < n → x < w .cards
   card x h = omega (arith, wiring-at-cards 6 ps)
 
-  found : r .found ≡ one (ltb median-card n)
+  found : r .found ≡ one (ltb lowest-median n)
   found = s .found ∙ rw (eq-eqb (r .number) 0 z) refl
 
   -- the test and its meaning
@@ -72,37 +73,44 @@ module _ (ps : List ℕ) (a b c : ℕ) (r : Conference) (s : Conference-says ps 
   passes : (x : ℕ) → On-all-three w a b c x → median w a b c x ≡ true
   passes x (p, q, t) = tests-median w a b c x (on-shortest-between w a x b p, on-shortest-between w a x c q, on-shortest-between w b x c t)
 
-  module _ (l : median-card < n) where
+  -- from the plan's bits, which embed the wiring inside
+  only-median : (x y : ℕ) → x < n → y < n → median w a b c x ≡ true → median w a b c y ≡ true → x ≡ y
+  only-median x y hx hy =
+      median-once w (plan-columns ps) (plan-bit ps) (plan-embedding ps measured) a b c (card a (inside .1)) (card b (inside .2)) (card c (inside .3))
+      x y (card x hx) (card y hy)
+
+  majority-bits : (x : ℕ) → x < n → median w a b c x ≡ true → (j : ℕ) → j < plan-columns ps
+      → plan-bit ps x j ≡ majority (plan-bit ps a j) (plan-bit ps b j) (plan-bit ps c j)
+  majority-bits x hx =
+      median-bits w (plan-columns ps) (plan-bit ps) (plan-embedding ps measured) a b c (card a (inside .1)) (card b (inside .2)) (card c (inside .3))
+      x (card x hx)
+
+  module _ (l : lowest-median < n) where
     is-found : r .found ≡ 1
-    is-found = found ∙ ap one (lt-ltb median-card n l)
+    is-found = found ∙ ap one (lt-ltb lowest-median n l)
 
-    is-median-card : r .card ≡ median-card
-    is-median-card = s .card ∙ rw is-found refl
+    is-lowest : r .card ≡ lowest-median
+    is-lowest = s .card ∙ rw is-found refl
 
-    median-card-passes : median w a b c median-card ≡ true
+    lowest-tested : median w a b c lowest-median ≡ true
     unfolding conference
-    median-card-passes = lowest-passes (w .cards) (median w a b c) (card median-card l)
+    lowest-tested = lowest-passes (w .cards) (median w a b c) (card lowest-median l)
 
     some-card : Card-or-none ps a b c r
     some-card =
-        let m = plan-embedding ps measured in
-        let k = plan-columns ps in
-        let ha = card a (inside .1) in
-        let hb = card b (inside .2) in
-        let hc = card c (inside .3) in
-        let all = on-all median-card l median-card-passes in
+        let all = on-all lowest-median l lowest-tested in
         record {
           either = inr is-found;
-          inside = λ e. omega (arith, is-median-card);
-          on-all = λ e. rw is-median-card all;
-          only = λ e x hx o. median-once w k (plan-bit ps) m a b c ha hb hc x median-card (card x hx) (card median-card l) (passes x o) median-card-passes ∙ sym is-median-card;
-          bits = λ e j hj. rw is-median-card (median-bits w k (plan-bit ps) m a b c ha hb hc median-card (card median-card l) median-card-passes j hj);
-          none = ((λ e. absurd (omega (arith, is-found))), λ never. absurd (never median-card l all));
+          inside = λ e. omega (arith, is-lowest);
+          on-all = λ e. rw is-lowest all;
+          only = λ e x hx o. only-median x lowest-median hx l (passes x o) lowest-tested ∙ sym is-lowest;
+          bits = λ e. rw is-lowest (majority-bits lowest-median l lowest-tested);
+          none = ((λ e. absurd (omega (arith, is-found))), λ never. absurd (never lowest-median l all));
         }
 
-  module _ (l : n ≤ median-card) where
+  module _ (l : n ≤ lowest-median) where
     not-found : r .found ≡ 0
-    not-found = found ∙ ap one (le-ltb median-card n l)
+    not-found = found ∙ ap one (le-ltb lowest-median n l)
 
     no-median : (x : ℕ) → x < n → median w a b c x ≡ false
     unfolding conference
@@ -125,7 +133,7 @@ module _ (ps : List ℕ) (a b c : ℕ) (r : Conference) (s : Conference-says ps 
 pub conference-promise : Conference-promise
 unfolding Conference-promise
 conference-promise ps a b c r s z =
-    by-lt (median-card ps a b c r s z) (plan-cards ps) (some-card ps a b c r s z) (no-card ps a b c r s z)
+    by-lt (lowest-median ps a b c r s z) (plan-cards ps) (some-card ps a b c r s z) (no-card ps a b c r s z)
 
 -- THE REFUSALS
 pub conference-refused : Conference-refused
@@ -138,12 +146,12 @@ conference-refused ps a b c =
       refused-before x n a b c,
     )
   where
-    outside : three-refusal (plan-refusal ps) (plan-cards ps) a b c ≡ 14 → (plan-refusal ps ≡ 0) × Some-outside (plan-refusal ps) (plan-cards ps) a b c
+    outside : three-refusal (plan-refusal ps) (plan-cards ps) a b c ≡ 14 → (plan-refusal ps ≡ 0) × Some-outside (plan-cards ps) a b c
     outside h =
         let x = plan-refusal ps in
         let n = plan-cards ps in
         by-eq x 0
-        (λ e. (e, inside-or-outside x n a b c (λ ha hb hc. absurd (omega (arith, h, all-inside x n a b c e ha hb hc))) (λ o. o)))
+        (λ e. (e, inside-or-outside n a b c (λ ha hb hc. absurd (omega (arith, h, all-inside x n a b c e ha hb hc))) (λ o. o)))
         (λ d. absurd (omega (arith, h, refused-before x n a b c d, plan-refusal-most ps)))
 
 -- A CARD NAMED TWICE is on the path of no links from it to itself, and at the end of every other
