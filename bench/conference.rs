@@ -1,4 +1,4 @@
-//! Times the worst conferences of racks of 256 cards beside the same call refused with 14, which reads the plan and no more,
+//! Times the worst conferences of racks of 256 cards beside the same call refused with 14, which reads the plan and does no more,
 //! and prints a table.
 
 #[path = "../tests/calls.rs"]
@@ -39,12 +39,12 @@ fn print_rack(measured: &Measured, plan: &[u8]) {
         counts,
         three,
         answer,
+        refused,
     } = measured.worst_conference(plan);
-    let outside = [three[0], three[1], 256];
     assert_eq!(conference_card(plan, three), answer, "{}", measured.name);
-    assert_eq!(conference_card(plan, outside), [14, 0, 0]);
+    assert_eq!(conference_card(plan, refused), [14, 0, 0]);
     let times: Vec<(f64, f64)> = (0..SAMPLES)
-        .map(|_| (microseconds(plan, outside), microseconds(plan, three)))
+        .map(|_| (microseconds(plan, refused), microseconds(plan, three)))
         .collect();
     let best = |time: fn(&(f64, f64)) -> f64| times.iter().map(time).fold(f64::INFINITY, f64::min);
     let mut more: Vec<f64> = times

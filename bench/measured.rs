@@ -25,11 +25,13 @@ pub struct Frame {
 }
 
 /// Three cards, the pairs of cards whose places are counted, and the answer: the number, 1 for a card or 0 for none, the card.
+/// Beside them three numbers of which the last is no card: refused with 14, the call reads the plan and does no more.
 #[allow(dead_code)]
 pub struct Conference {
     pub counts: usize,
     pub three: [u32; 3],
     pub answer: [u32; 3],
+    pub refused: [u32; 3],
 }
 
 /// The slowest wirings that a search found.
@@ -167,6 +169,7 @@ impl Measured {
                 counts,
                 three: [a, b, c].map(|card| card as u32),
                 answer: card.map_or([0; 3], |card| [0, 1, card as u32]),
+                refused: [a, b, self.rack.cards].map(|card| card as u32),
             }
         });
         conferences

@@ -26,7 +26,6 @@ enum Kind {
     Refused,
 }
 
-const CARDS: u32 = 256;
 const COLUMNS: usize = 5;
 const KINDS: [&str; COLUMNS] = ["planning", "reading", "step", "walk", "conference"];
 
@@ -112,9 +111,8 @@ fn walk(kind: Kind, frames: &[Frame], made: &mut Made) {
 /// the difference.
 fn confer(measured: &Measured, plan: &[u8], made: &mut Made) {
     let worst = measured.worst_conference(plan);
-    let [a, b, _] = worst.three;
     for (kind, three, answer) in [
-        (Kind::Refused, [a, b, CARDS], [14, 0, 0]),
+        (Kind::Refused, worst.refused, [14, 0, 0]),
         (Kind::Conference, worst.three, worst.answer),
     ] {
         made.push((measured.name, kind));

@@ -96,8 +96,8 @@ module _ (ps : List ℕ) (a b c : ℕ) (r : Conference) (s : Conference-says ps 
     unfolding conference
     lowest-tested = lowest-passes (w .cards) (median w a b c) (card lowest-median l)
 
-    some-card : Card-or-none ps a b c r
-    some-card =
+    card-answered : Card-or-none ps a b c r
+    card-answered =
         let all = on-all lowest-median l lowest-tested in
         record {
           either = inr is-found;
@@ -119,8 +119,8 @@ module _ (ps : List ℕ) (a b c : ℕ) (r : Conference) (s : Conference-says ps 
     never : {C : Type 0} → r .found ≡ 1 → C
     never e = absurd (omega (arith, not-found))
 
-    no-card : Card-or-none ps a b c r
-    no-card =
+    none-answered : Card-or-none ps a b c r
+    none-answered =
         record {
           either = inl not-found;
           inside = λ e. never e;
@@ -133,7 +133,7 @@ module _ (ps : List ℕ) (a b c : ℕ) (r : Conference) (s : Conference-says ps 
 pub conference-promise : Conference-promise
 unfolding Conference-promise
 conference-promise ps a b c r s z =
-    by-lt (lowest-median ps a b c r s z) (plan-cards ps) (some-card ps a b c r s z) (no-card ps a b c r s z)
+    by-lt (lowest-median ps a b c r s z) (plan-cards ps) (card-answered ps a b c r s z) (none-answered ps a b c r s z)
 
 -- THE REFUSALS
 pub conference-refused : Conference-refused

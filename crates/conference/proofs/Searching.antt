@@ -8,14 +8,14 @@ use native.Mathlib.Omega.{arith}
 use lib.Dec.{eqb}
 use borrow.Author.Tests.{eq-eqb, ne-eqb}
 use Rattle.rack.specs.Limits.{most-columns}
-use Rattle.rack.specs.PlanFile.{plan-columns, plan-wiring, plan-bit, plan-hamming}
-use Rattle.rack.proofs.Hamming.{hamming-le}
+use Rattle.rack.specs.PlanFile.{plan-wiring, plan-hamming}
 use Rattle.rack.proofs.Hops.{hops-sym}
 use Rattle.rack.proofs.Tables.{lowest-is}
 use Rattle.rack.proofs.WiringFile.{wiring-at-cards}
 use Rattle.reader.specs.Promises.{Measured}
 use Rattle.reader.specs.Reading.{Laid-out}
 use Rattle.reader.specs.declared.layout.Sizes.{Sizes}
+use Rattle.reader.proofs.Addresses.{hamming-columns}
 use Rattle.conference.specs.Conference.{between, median, conference}
 use Rattle.conference.specs.Callers.{Callers-are}
 use Rattle.conference.specs.declared.Callers.{Callers}
@@ -26,8 +26,7 @@ None-before ps a b c x = (j : ℕ) → j < x → median (plan-wiring ps) a b c j
 
 module _ (ps : List ℕ) (r : Sizes) (l : Laid-out ps r) where
   pub places-few : (a b : ℕ) → plan-hamming ps a b ≤ most-columns
-  unfolding plan-hamming
-  places-few a b = omega (arith, hamming-le (plan-columns ps) (plan-bit ps a) (plan-bit ps b), l .columns, l .few-columns)
+  places-few a b = omega (arith, hamming-columns ps a b, l .columns, l .few-columns)
 
   -- THE TEST of card x, from the counts as they are made
   module _ (s : Callers) (z : Callers-are ps s) (x : ℕ) (h : x < r .cards) where

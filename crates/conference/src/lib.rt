@@ -46,7 +46,7 @@ fn is_median(ones: &[u8; 256], plan: &[u8], sizes: Sizes, callers: Callers, x: u
     to_b + to_c == callers.bc
 }
 
-// The lowest card that is; where none is, the number of cards.
+// The lowest card that is on a shortest path between each two of three cards; where none is, the number of cards.
 fn lowest_median(ones: &[u8; 256], plan: &[u8], sizes: Sizes, a: usize, b: usize, c: usize) -> u32
     requires { ⌜ Counts (now ones) × Laid-out (now plan) sizes × Measured (now plan) × (a < sizes .cards) × (b < sizes .cards) × (c < sizes .cards) ⌝ }
     ensures { λ r. ⌜ r ≡ conference (plan-wiring (now (plan .entry))) a b c ⌝ }
