@@ -135,7 +135,7 @@ pub fn frame_sizes(plan: &[u8], from: u32, goal: u32) -> Sizes
 }
 
 // A step of a frame: 12, 14.
-pub fn step_frame(plan: &[u8], from: u32, goal: u32) -> Stepped
+pub fn step_checked(plan: &[u8], from: u32, goal: u32) -> Stepped
     ensures { λ r. ⌜ Step-says (now (plan .entry)) from goal r ⌝ }
 {
     let sizes = frame_sizes(plan, from, goal);

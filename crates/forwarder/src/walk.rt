@@ -119,7 +119,7 @@ fn copy_cards(cards: &[u16; LENT_MET], met: &mut [u16])
 }
 
 // A frame's walk: 1, 12, 14, 15. The counts go in and come back; stuck is an answer and changes neither.
-pub fn walk_frame(plan: &[u8], from: u32, goal: u32, traffic: Traffic, met: &mut [u16]) -> Walked
+pub fn walk_counted(plan: &[u8], from: u32, goal: u32, traffic: Traffic, met: &mut [u16]) -> Walked
     ensures says { λ r. ⌜ Walk-says (now (plan .entry)) from goal traffic r (now (met .entry)) (now (met .exit)) ⌝ }
     ensures arrives { λ r. ⌜ (Frame (now (plan .entry)) from goal (now (met .entry)) → Can-take traffic (hops (plan-wiring (now (plan .entry))) from goal) → Arrived (now (plan .entry)) from goal traffic r (now (met .exit))) ⌝ }
     ensures full { λ r. ⌜ (Frame (now (plan .entry)) from goal (now (met .entry)) → (Can-take traffic (hops (plan-wiring (now (plan .entry))) from goal) → ⊥) → Full traffic r (now (met .entry)) (now (met .exit))) ⌝ }

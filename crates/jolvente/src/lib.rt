@@ -8,7 +8,7 @@ ghost use Rattle.jolvente.specs.CCalls.{C-asked, C-found, C-frame, C-ful
 ghost use Rattle.jolvente.specs.Records.{cards-in, counts-in, walked-in};
 use forwarder::walk::LENT_MET;
 use forwarder::walk::Traffic;
-use forwarder::walk::walk_frame;
+use forwarder::walk::walk_counted;
 use planner::write_plan;
 use rack::bytes::number32_at;
 use rack::limits::LENT_PLAN;
@@ -78,7 +78,7 @@ pub extern "C" fn jolvente_walk(
         hops: number32_at(record, 12),
     };
     let mut cards = [0u16; LENT_MET];
-    let w = walk_frame(plan, from, goal, traffic, &mut cards);
+    let w = walk_counted(plan, from, goal, traffic, &mut cards);
     if w.number != 0 {
         return w.number;
     }

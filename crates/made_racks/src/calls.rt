@@ -3,10 +3,10 @@ use crate::say::bytes_sum;
 use crate::say::cards_sum;
 use crate::say::say;
 use crate::say::words_sum;
-use forwarder::step::step_frame;
+use forwarder::step::step_checked;
 use forwarder::walk::Traffic;
 use forwarder::walk::Walked;
-use forwarder::walk::walk_frame;
+use forwarder::walk::walk_counted;
 use planner::Answer;
 use planner::plan_rack;
 use planner::write_plan;
@@ -89,14 +89,14 @@ fn say_walked(from: u32, goal: u32, w: Walked, met: u32) {
 
 // Walks a frame, with counts handed in, in a lent buffer.
 pub fn walked(plan: &[u8], from: u32, goal: u32, traffic: Traffic, met: &mut [u16]) {
-    let w = walk_frame(plan, from, goal, traffic, met);
+    let w = walk_counted(plan, from, goal, traffic, met);
     say_walked(from, goal, w, cards_sum(met));
 }
 
 // The counts after one more frame.
 fn counted(plan: &[u8], from: u32, goal: u32, traffic: Traffic) -> Traffic {
     let mut met = [7u16; 256];
-    let w = walk_frame(plan, from, goal, traffic, &mut met);
+    let w = walk_counted(plan, from, goal, traffic, &mut met);
     w.traffic
 }
 
@@ -119,7 +119,7 @@ pub fn walked_to_each(plan: &[u8], n: u32, from: u32) {
 
 // Takes one step.
 pub fn stepped(plan: &[u8], from: u32, goal: u32) {
-    let s = step_frame(plan, from, goal);
+    let s = step_checked(plan, from, goal);
     say(
         b"; step A to B refused C\
         |; step A to B stuck\

@@ -11,10 +11,10 @@ ghost use Rattle.opened.specs.Opening.{carries, carried-bytes, Read-with
 use conference::Conference;
 use conference::conference_card;
 use forwarder::step::Stepped;
-use forwarder::step::step_frame;
+use forwarder::step::step_checked;
 use forwarder::walk::Traffic;
 use forwarder::walk::Walked;
-use forwarder::walk::walk_frame;
+use forwarder::walk::walk_counted;
 use reader::layout::Sizes;
 use reader::layout::plan_layout;
 use reader::read::card_address;
@@ -106,7 +106,7 @@ pub fn step_carried(
 ) -> Stepped
     ensures { λ r. ⌜ Step-says (carried-bytes (now (bytes .entry)) cards links columns) from goal r ⌝ }
 {
-    step_frame(carried_bytes(bytes, cards, links, columns), from, goal)
+    step_checked(carried_bytes(bytes, cards, links, columns), from, goal)
 }
 
 // A frame's walk: 1, 12, 14, 15.
@@ -122,7 +122,7 @@ pub fn walk_carried(
 ) -> Walked
     ensures { λ r. ⌜ Walk-with-arrival (carried-bytes (now (bytes .entry)) cards links columns) from goal traffic r (now (met .entry)) (now (met .exit)) ⌝ }
 {
-    walk_frame(
+    walk_counted(
         carried_bytes(bytes, cards, links, columns),
         from,
         goal,

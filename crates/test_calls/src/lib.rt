@@ -13,9 +13,9 @@ use answers::put_conference;
 use answers::put_step;
 use answers::put_walk;
 use conference::conference_card;
-use forwarder::step::step_frame;
+use forwarder::step::step_checked;
 use forwarder::walk::Traffic;
-use forwarder::walk::walk_frame;
+use forwarder::walk::walk_counted;
 use listing_text::listing_text;
 use planner::plan_rack;
 use reader::read::card_address;
@@ -70,7 +70,7 @@ pub extern "C" fn test_step_frame(plan: &[u8], from: u32, goal: u32, answer: &mu
     if answer.len() != 3 {
         return 1;
     }
-    put_step(step_frame(plan, from, goal), answer)
+    put_step(step_checked(plan, from, goal), answer)
 }
 
 // A walk: 1, 12, 14, 15. The fields are 1 for arrived or 0 for stuck, the hops, and the two counts.
@@ -93,7 +93,7 @@ pub extern "C" fn test_walk_frame(
         frames: frames,
         hops: hops,
     };
-    put_walk(walk_frame(plan, from, goal, traffic, met), answer)
+    put_walk(walk_counted(plan, from, goal, traffic, met), answer)
 }
 
 // A conference card: 1, 12, 13, 14. The fields are 1 for a card or 0 for none, and the card.

@@ -25,26 +25,26 @@ number32-at-requires c κs = search needs
 number32-at-requires-2 : tie.Need-number32-at-requires-2
 number32-at-requires-2 c κs = search needs
 
-slice-aggregate-walk-frame : tie.Need-slice-aggregate-walk-frame
-slice-aggregate-walk-frame c = search needs
+slice-aggregate-walk-counted : tie.Need-slice-aggregate-walk-counted
+slice-aggregate-walk-counted c = search needs
 
-walk-frame-requires : tie.Need-walk-frame-requires
-walk-frame-requires c κs = search needs
+walk-counted-requires : tie.Need-walk-counted-requires
+walk-counted-requires c κs = search needs
 
 same-length : tie.Need-same-length
 same-length c = search needs
 
 returns-3 : tie.Need-returns-3
 returns-3 c =
-    let at-walk-frame = c .before .before .before in
-    let at-number32-at = at-walk-frame .before .before .before .before in
+    let at-walk-counted = c .before .before .before in
+    let at-number32-at = at-walk-counted .before .before .before .before in
     let at-if2 = at-number32-at .before .before in
     let at-if1 = at-if2 .before in
     let z = at-if1 .before .before .before .before .args in
-    let w = at-walk-frame .walk-frame in
+    let w = at-walk-counted .walk-counted in
     with-c-arrival _ _ _ _ _ _ _ _
     (walk-refused (z .plan .now) (z .from) (z .goal) (z .met .now) (z .«record» .now) (omega (arith, at-if1 .if1 .left)) (omega (arith, at-if2 .if2 .left))
-    _ (at-number32-at .number32-at .ensures) (at-walk-frame .before .before .number32-at2 .ensures) (w .result) _ _ refl (w .ensures .0) (λ e. omega arith))
+    _ (at-number32-at .number32-at .ensures) (at-walk-counted .before .before .number32-at2 .ensures) (w .result) _ _ refl (w .ensures .0) (λ e. omega arith))
 
 slice-aggregate-put-cards : tie.Need-slice-aggregate-put-cards
 slice-aggregate-put-cards c = search needs
@@ -66,15 +66,15 @@ returns-4 c =
     let at-put-record = c .before .before in
     let at-put-cards = at-put-record .before .before .before .before .before in
     let at-if3 = at-put-cards .before .before .before in
-    let at-walk-frame = at-if3 .before .before .before in
-    let at-number32-at = at-walk-frame .before .before .before .before in
+    let at-walk-counted = at-if3 .before .before .before in
+    let at-number32-at = at-walk-counted .before .before .before .before in
     let at-if2 = at-number32-at .before .before in
     let at-if1 = at-if2 .before in
     let z = at-if1 .before .before .before .before .args in
-    let w = at-walk-frame .walk-frame in
+    let w = at-walk-counted .walk-counted in
     with-c-arrival _ _ _ _ _ _ _ _
     (walk-said (z .plan .now) (z .from) (z .goal) (z .met .now) (z .«record» .now) (omega (arith, at-if1 .if1 .left)) (omega (arith, at-if2 .if2 .left))
-    _ (at-number32-at .number32-at .ensures) (at-walk-frame .before .before .number32-at2 .ensures) (w .result) _ _ refl (w .ensures .0)
+    _ (at-number32-at .number32-at .ensures) (at-walk-counted .before .before .number32-at2 .ensures) (w .result) _ _ refl (w .ensures .0)
     (omega (arith, at-if3 .if3 .left)) _ _ (at-put-cards .put-cards .ensures) (at-put-record .put-record .ensures))
 
 pub jolvente-walk-spec : {M : Type 1} → statement M
@@ -85,8 +85,8 @@ jolvente-walk-spec =
     returns-2
     number32-at-requires
     number32-at-requires-2
-    slice-aggregate-walk-frame
-    walk-frame-requires
+    slice-aggregate-walk-counted
+    walk-counted-requires
     same-length
     returns-3
     slice-aggregate-put-cards

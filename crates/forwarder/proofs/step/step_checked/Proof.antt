@@ -3,8 +3,8 @@ use native.Mathlib.Omega.{arith}
 use mathlib.Core.Path.{sym, _∙_}
 use Rattle.forwarder.proofs.Frames.{step-refused, step-answered}
 use borrow.Author.Needs.{needs}
-use Rattle.forwarder.proofs.step.step_frame.Statement.{statement}
-use Rattle.forwarder.proofs.step.step_frame.Tie as tie
+use Rattle.forwarder.proofs.step.step_checked.Statement.{statement}
+use Rattle.forwarder.proofs.step.step_checked.Tie as tie
 
 frame-sizes-requires : tie.Need-frame-sizes-requires
 frame-sizes-requires c κs = search needs
@@ -30,8 +30,8 @@ returns-2 c =
     let at-frame-sizes = c .before .before .before .before .before in
     step-answered _ _ _ _ (sym (at-frame-sizes .frame-sizes .ensures .number) ∙ omega arith) (c .step-between .ensures)
 
-pub step-frame-spec : {M : Type 1} → statement M
-step-frame-spec =
+pub step-checked-spec : {M : Type 1} → statement M
+step-checked-spec =
     tie.close
     (tie.spec
     frame-sizes-requires

@@ -4,8 +4,8 @@ use mathlib.Core.Path.{sym, _∙_}
 use Rattle.forwarder.proofs.Answers.{says-no-room, says-no-frame, says-full, says-answered}
 use Rattle.forwarder.proofs.Arrival.{with-arrival}
 use borrow.Author.Needs.{needs}
-use Rattle.forwarder.proofs.walk.walk_frame.Statement.{statement}
-use Rattle.forwarder.proofs.walk.walk_frame.Tie as tie
+use Rattle.forwarder.proofs.walk.walk_counted.Statement.{statement}
+use Rattle.forwarder.proofs.walk.walk_counted.Tie as tie
 
 not-walked-requires : tie.Need-not-walked-requires
 not-walked-requires c κs = search needs
@@ -68,8 +68,8 @@ returns-4 c =
     (at-walk-between .walk-between .ensures) (at-counted .counted .ensures) _ (omega (arith, at-if3 .if3 .left))
     (c .before .before .copy-cards .ensures))
 
-pub walk-frame-spec : {M : Type 1} → statement M
-walk-frame-spec =
+pub walk-counted-spec : {M : Type 1} → statement M
+walk-counted-spec =
     tie.close
     (tie.spec
     not-walked-requires
