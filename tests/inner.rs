@@ -1,9 +1,10 @@
 //! Compares the calls of libtest_calls.a with the second implementation: `inner [SEED] [ROUNDS]`.
-//! A round plans and lists a rack and faulty files, makes calls on its plan, on damaged ones and on one made up, and lets the
-//! rack's cards confer.
+//! A round plans and lists a rack and faulty files, makes calls on its plan, on damaged ones and on one made up, steps over the
+//! rack's links, and lets its cards confer.
 
 #[allow(dead_code)]
 mod conference;
+mod crossing;
 mod drawn;
 #[allow(dead_code)]
 mod faults;
@@ -20,12 +21,16 @@ use faults::{plans, wirings};
 use inner_both::{Both, Call, Lengths, Name, NAMES};
 use racks::kinds::SHAPES;
 use racks::Rng;
+use second::columns::column_numbers;
+use second::planner::Wiring;
 
 const SEED: u64 = 20_261_116;
 const ROUNDS: u64 = 1_200;
 const FEWEST_CALLS: u64 = 300_000;
 /// The most cards of a rack of which all threes confer.
 const SMALL: usize = 14;
+/// How many links of a rack are stepped over.
+const CROSSED: usize = 60;
 
 fn main() {
     let mut numbers = std::env::args()
@@ -73,6 +78,11 @@ fn report(both: &Both, rounds: u64) {
          conferences at a card {somewhere}, at none {nowhere}",
         ends[0], ends[1]
     );
+    let columns = &both.columns;
+    println!(
+        "of several columns crossed, by steps {}, by walks that were stuck {}; only spare bits differ {}",
+        columns.step, columns.stuck_walk, columns.spare
+    );
 }
 
 /// Every number that a call can be answered with was met and no other, and every end of steps, walks and conferences.
@@ -88,6 +98,10 @@ fn check_reach(both: &Both) {
     }
     if both.outcomes.contains(&0) || both.ends.contains(&0) || both.conferences.contains(&0) {
         stop("FAILED: a step, a walk or a conference never ended in one of its ways");
+    }
+    let columns = &both.columns;
+    if [columns.step, columns.stuck_walk, columns.spare].contains(&0) {
+        stop("FAILED: never did several columns differ on a way, or only spare bits of two cards");
     }
     if both.calls() < FEWEST_CALLS {
         stop(&format!(
@@ -108,6 +122,7 @@ fn run_round(both: &mut Both, rng: &mut Rng) {
     if let Ok(planned) = second::planner::plan(&wiring) {
         let plan = planned.bytes();
         follow_plan(both, rng, &plan, 50);
+        cross_links(both, rng, &planned.wiring, &plan);
         confer(both, rng, &plan);
         for _ in 0..4 {
             let damaged = plans::damaged_plan(rng, &plan);
@@ -147,6 +162,37 @@ fn follow_plan(both: &mut Both, rng: &mut Rng, plan: &[u8], calls: usize) {
         };
         let lengths = some_lengths(rng, call.name);
         both.call(call, plan, lengths);
+    }
+}
+
+/// Asks for the columns of linked pairs, from either end, by their places, a step and a walk; each is the number of the link's column.
+fn cross_links(both: &mut Both, rng: &mut Rng, wiring: &Wiring, plan: &[u8]) {
+    let numbers = column_numbers(wiring);
+    for _ in 0..CROSSED.min(wiring.links.len()) {
+        let link = rng.below(wiring.links.len());
+        let (p, q) = wiring.links[link];
+        for (name, before) in [
+            (Name::PlanPlaces, 1),
+            (Name::StepFrame, 3),
+            (Name::WalkFrame, 4),
+        ] {
+            let (from, goal) = rng.pick(&[(p as u32, q as u32), (q as u32, p as u32)]);
+            let call = Call {
+                name,
+                sizes: [0; 3],
+                from,
+                goal,
+                third: 0,
+                counts: [0; 2],
+            };
+            let fields = both.call(call, plan, name.lengths());
+            if fields[before..] != [1, numbers[link] as u32] {
+                stop(&format!(
+                    "FAILED: {name:?} {from} {goal}: {fields:?}, and link {link} has column {}",
+                    numbers[link]
+                ));
+            }
+        }
     }
 }
 

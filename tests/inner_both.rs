@@ -12,6 +12,7 @@ pub enum Name {
     PlanRack,
     ListingText,
     CardAddress,
+    PlanPlaces,
     StepFrame,
     WalkFrame,
     ReadCarried,
@@ -25,10 +26,11 @@ pub enum Name {
     ConferenceCarried,
 }
 
-pub const NAMES: [Name; 13] = [
+pub const NAMES: [Name; 14] = [
     Name::PlanRack,
     Name::ListingText,
     Name::CardAddress,
+    Name::PlanPlaces,
     Name::StepFrame,
     Name::WalkFrame,
     Name::ReadCarried,
@@ -48,6 +50,7 @@ pub enum Kind {
     Listing,
     Address,
     Sizes,
+    Places,
     Step,
     Walk,
     Conference,
@@ -69,6 +72,7 @@ impl Name {
             Name::ListingText => Kind::Listing,
             Name::CardAddress | Name::AddressCarried => Kind::Address,
             Name::ReadCarried => Kind::Sizes,
+            Name::PlanPlaces => Kind::Places,
             Name::StepFrame | Name::StepCarried | Name::OpenedStep => Kind::Step,
             Name::WalkFrame | Name::WalkCarried | Name::OpenedWalk => Kind::Walk,
             Name::ConferenceCard | Name::ConferenceCarried => Kind::Conference,
@@ -80,8 +84,9 @@ impl Name {
             Kind::Plan => [1_024, 65_536, 0, 2],
             Kind::Listing => [0, 67_873, 0, 2],
             Kind::Address => [0; 4],
-            Kind::Sizes | Kind::Step => [0, 0, 0, 3],
-            Kind::Walk => [0, 0, 256, 4],
+            Kind::Sizes | Kind::Places => [0, 0, 0, 3],
+            Kind::Step => [0, 0, 0, 5],
+            Kind::Walk => [0, 0, 256, 6],
             Kind::Conference => [0, 0, 0, 2],
         };
         Lengths {
@@ -99,15 +104,15 @@ impl Name {
             Kind::Listing => &[0, 1],
             Kind::Address => &[0, 12, 13, 14],
             Kind::Sizes => &[0, 1, 12, 13],
-            Kind::Step => &[0, 1, 12, 14],
+            Kind::Places | Kind::Step => &[0, 1, 12, 14],
             Kind::Walk => &[0, 1, 12, 14, 15],
             Kind::Conference => &[0, 1, 12, 13, 14],
         }
     }
 }
 
-/// A call and its numbers; each call takes those that it has. An address is that of card `from`; a conference is of
-/// `from`, `goal` and `third`.
+/// A call and its numbers; each call takes those that it has. An address is that of card `from`; places are those of `from` and
+/// `goal`; a conference is of `from`, `goal` and `third`.
 #[derive(Clone, Copy, Debug)]
 pub struct Call {
     pub name: Name,
@@ -179,6 +184,15 @@ impl Lents {
     }
 }
 
+/// How often two cards had equal addresses with other spare bits, and a step, or a walk that was stuck, crossed one of several
+/// columns that differ.
+#[derive(Default)]
+pub struct Columns {
+    pub spare: u64,
+    pub step: u64,
+    pub stuck_walk: u64,
+}
+
 /// Makes calls and counts the numbers of their answers.
 pub struct Both {
     seed: u64,
@@ -192,6 +206,7 @@ pub struct Both {
     pub ends: [u64; 2],
     /// How often a conference had no card, or one.
     pub conferences: [u64; 2],
+    pub columns: Columns,
     known: inner_second::Known,
 }
 
@@ -205,6 +220,7 @@ impl Both {
             outcomes: [0; 3],
             ends: [0; 2],
             conferences: [0; 2],
+            columns: Default::default(),
             known: Default::default(),
         }
     }
@@ -213,7 +229,8 @@ impl Both {
         self.seen.iter().flatten().sum()
     }
 
-    pub fn call(&mut self, call: Call, input: &[u8], lengths: Lengths) {
+    /// Makes a call on both sides; the fields that they agree in.
+    pub fn call(&mut self, call: Call, input: &[u8], lengths: Lengths) -> Vec<u32> {
         let mut ours = Lents::noise(&mut self.noise, lengths);
         let mut theirs = ours.clone();
         let lent_input = input.to_vec();
@@ -235,16 +252,35 @@ impl Both {
             );
             std::process::exit(1)
         }
-        self.count(call.name, number, &ours);
+        self.seen[call.name as usize][number as usize] += 1;
+        if number == 0 {
+            self.count(&call, input, &ours);
+        }
+        ours.fields.items().to_vec()
     }
 
-    fn count(&mut self, name: Name, number: u32, lent: &Lents) {
-        self.seen[name as usize][number as usize] += 1;
-        let fields = lent.fields.items();
-        match (name.kind(), number) {
-            (Kind::Step, 0) => self.outcomes[fields[0] as usize] += 1,
-            (Kind::Walk, 0) => self.ends[fields[0] as usize] += 1,
-            (Kind::Conference, 0) => self.conferences[fields[0] as usize] += 1,
+    /// Counts a call that was not refused.
+    fn count(&mut self, call: &Call, input: &[u8], lent: &Lents) {
+        let fields: Vec<usize> = lent.fields.items().iter().map(|&x| x as usize).collect();
+        let from = call.from as usize;
+        match call.name.kind() {
+            Kind::Places if fields[0] == 0 => {
+                let spare = inner_second::bytes_differ(input, from, call.goal as usize);
+                self.columns.spare += u64::from(spare);
+            }
+            Kind::Step => {
+                self.outcomes[fields[0]] += 1;
+                let many = fields[0] == 2 && inner_second::many_columns(input, from, fields[2]);
+                self.columns.step += u64::from(many);
+            }
+            Kind::Walk => {
+                self.ends[fields[0]] += 1;
+                let second = usize::from(lent.met.items()[1]);
+                let stuck = fields[0] == 0 && fields[1] > 0;
+                let many = stuck && inner_second::many_columns(input, from, second);
+                self.columns.stuck_walk += u64::from(many);
+            }
+            Kind::Conference => self.conferences[fields[0]] += 1,
             _ => {}
         }
     }

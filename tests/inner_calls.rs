@@ -1,6 +1,7 @@
 //! The calls of libtest_calls.a, over slices.
 
 use crate::conference::test_conference_card;
+use crate::crossing::{test_step_frame, test_walk_frame};
 use crate::inner_both::{Call, Kind, Lents, Name};
 
 /// A slice as the library hands it out.
@@ -30,23 +31,11 @@ extern "C" {
         answer_len: usize,
     ) -> u32;
     fn test_card_address(plan: *const u8, plan_len: usize, card: u32, part: *mut Part) -> u32;
-    fn test_step_frame(
+    fn test_plan_places(
         plan: *const u8,
         plan_len: usize,
-        from: u32,
-        goal: u32,
-        answer: *mut u32,
-        answer_len: usize,
-    ) -> u32;
-    fn test_walk_frame(
-        plan: *const u8,
-        plan_len: usize,
-        from: u32,
-        goal: u32,
-        frames: u32,
-        hops: u32,
-        met: *mut u16,
-        met_len: usize,
+        a: u32,
+        b: u32,
         answer: *mut u32,
         answer_len: usize,
     ) -> u32;
@@ -141,7 +130,7 @@ pub fn ask(call: &Call, input: &[u8], lent: &mut Lents) -> u32 {
     match call.name.kind() {
         Kind::Plan | Kind::Listing => plan_or_list(call.name, input, lent),
         Kind::Address => address(call, input, lent),
-        Kind::Sizes | Kind::Step | Kind::Conference => fields(call, input, lent),
+        Kind::Sizes | Kind::Places | Kind::Step | Kind::Conference => fields(call, input, lent),
         Kind::Walk => walk(call, input, lent),
     }
 }
@@ -202,6 +191,7 @@ fn fields(call: &Call, plan: &[u8], lent: &mut Lents) -> u32 {
     unsafe {
         match call.name {
             Name::ReadCarried => test_read_carried(start, long, n, m, k, fields, count),
+            Name::PlanPlaces => test_plan_places(start, long, a, b, fields, count),
             Name::StepFrame => test_step_frame(start, long, a, b, fields, count),
             Name::StepCarried => test_step_carried(start, long, n, m, k, a, b, fields, count),
             Name::OpenedStep => test_opened_step(start, long, a, b, fields, count),

@@ -1,6 +1,7 @@
 //! What the calls of libtest_calls.a mean, by the rules alone, over the second implementation.
 
 use crate::inner_both::{Call, Kind, Lents, Name};
+use crate::second::columns::{differing_columns, first_of};
 use crate::second::conference::Ways;
 use crate::second::listing::listing;
 use crate::second::planner::{all_hops, plan};
@@ -23,6 +24,7 @@ pub fn ask(known: &mut Known, call: &Call, input: &[u8], lent: &mut Lents) -> u3
         Kind::Listing => listing_text(call, input, lent),
         Kind::Address => address(call, input, lent),
         Kind::Sizes => read(input, lent),
+        Kind::Places => plan_places(call, input, lent),
         Kind::Step => step_frame(call, input, lent),
         Kind::Walk => walk_frame(call, input, lent),
         Kind::Conference => conference(known, call, input, lent),
@@ -165,21 +167,41 @@ fn step(plan: &Layout, at: usize, goal: usize) -> [usize; 3] {
     [0, 0, 0]
 }
 
-fn step_frame(call: &Call, plan: &[u8], lent: &mut Lents) -> u32 {
+/// How many columns differ, and the lowest.
+fn plan_places(call: &Call, plan: &[u8], lent: &mut Lents) -> u32 {
     put(lent, &[0, 0, 0]);
     match frame(call, plan) {
-        Ok((plan, from, goal)) => {
-            put(lent, &step(&plan, from, goal));
+        Ok((plan, a, b)) => {
+            let columns = differing_columns(&plan, a, b);
+            let [found, column] = first_of(&columns);
+            put(lent, &[columns.len(), found, column]);
             0
         }
         Err(number) => number,
     }
 }
 
-/// With a refusal the counts come back as they were.
+/// A step over a link crosses the lowest column in which its card and the far card differ.
+fn step_frame(call: &Call, plan: &[u8], lent: &mut Lents) -> u32 {
+    put(lent, &[0; 5]);
+    match frame(call, plan) {
+        Ok((plan, from, goal)) => {
+            let [outcome, link, far] = step(&plan, from, goal);
+            let [found, column] = match outcome {
+                2 => first_of(&differing_columns(&plan, from, far)),
+                _ => [0, 0],
+            };
+            put(lent, &[outcome, link, far, found, column]);
+            0
+        }
+        Err(number) => number,
+    }
+}
+
+/// With a refusal the counts come back as they were, and no column. A walk crosses first what its first step crosses.
 fn walk_frame(call: &Call, plan: &[u8], lent: &mut Lents) -> u32 {
     let [frames, total] = call.counts.map(|count| count as usize);
-    put(lent, &[0, 0, frames, total]);
+    put(lent, &[0, 0, frames, total, 0, 0]);
     if lent.met.items().len() != call.name.lengths().met {
         return 1;
     }
@@ -204,8 +226,26 @@ fn walk_frame(call: &Call, plan: &[u8], lent: &mut Lents) -> u32 {
     for (place, &card) in places.iter_mut().zip(&met) {
         *place = card as u16;
     }
-    put(lent, &[arrived, hops, frames, total]);
+    let [found, column] = match met[..] {
+        [first, second, ..] => first_of(&differing_columns(&plan, first, second)),
+        _ => [0, 0],
+    };
+    put(lent, &[arrived, hops, frames, total, found, column]);
     0
+}
+
+/// The bytes of two addresses differ.
+pub fn bytes_differ(plan: &[u8], a: usize, b: usize) -> bool {
+    Layout::new(plan).is_ok_and(|plan| {
+        let width = plan.columns.div_ceil(8);
+        let bytes = |card: usize| &plan.addresses[card * width..][..width];
+        bytes(a) != bytes(b)
+    })
+}
+
+/// Several columns of two addresses differ.
+pub fn many_columns(plan: &[u8], a: usize, b: usize) -> bool {
+    Layout::new(plan).is_ok_and(|plan| differing_columns(&plan, a, b).len() > 1)
 }
 
 /// 12, 13, 14 of any of the three; then 1 and the card, or 0 and 0 for none.

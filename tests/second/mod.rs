@@ -1,6 +1,7 @@
-//! A second implementation of planning, plan reading, walking and conference cards, written from the rules alone.
+//! A second implementation of planning, plan reading, walking, columns and conference cards, written from the rules alone.
 //! The tests compare it with the calls, and the benchmark times it beside those for C.
 
+pub mod columns;
 pub mod conference;
 pub mod listing;
 pub mod planner;

@@ -3,10 +3,11 @@ use crate::say::bytes_sum;
 use crate::say::cards_sum;
 use crate::say::say;
 use crate::say::words_sum;
-use forwarder::step::step_checked;
+use crossing::places::FirstColumn;
+use crossing::step_frame;
+use crossing::walk_frame;
 use forwarder::walk::Traffic;
 use forwarder::walk::Walked;
-use forwarder::walk::walk_counted;
 use planner::Answer;
 use planner::plan_rack;
 use planner::write_plan;
@@ -76,6 +77,11 @@ pub fn read(plan: &[u8]) {
     );
 }
 
+// The column crossed, if there is one.
+fn say_crossed(c: FirstColumn) {
+    say(b"| crossing column A", c.found as usize, &[c.column]);
+}
+
 fn say_walked(from: u32, goal: u32, w: Walked, met: u32) {
     let t = w.traffic;
     say(
@@ -89,14 +95,18 @@ fn say_walked(from: u32, goal: u32, w: Walked, met: u32) {
 
 // Walks a frame, with counts handed in, in a lent buffer.
 pub fn walked(plan: &[u8], from: u32, goal: u32, traffic: Traffic, met: &mut [u16]) {
-    let w = walk_counted(plan, from, goal, traffic, met);
+    let f = walk_frame(plan, from, goal, traffic, met);
+    let w = f.walked;
     say_walked(from, goal, w, cards_sum(met));
+    let c = f.crossed;
+    say_crossed(c);
 }
 
 // The counts after one more frame.
 fn counted(plan: &[u8], from: u32, goal: u32, traffic: Traffic) -> Traffic {
     let mut met = [7u16; 256];
-    let w = walk_counted(plan, from, goal, traffic, &mut met);
+    let f = walk_frame(plan, from, goal, traffic, &mut met);
+    let w = f.walked;
     w.traffic
 }
 
@@ -119,7 +129,8 @@ pub fn walked_to_each(plan: &[u8], n: u32, from: u32) {
 
 // Takes one step.
 pub fn stepped(plan: &[u8], from: u32, goal: u32) {
-    let s = step_checked(plan, from, goal);
+    let f = step_frame(plan, from, goal);
+    let s = f.stepped;
     say(
         b"; step A to B refused C\
         |; step A to B stuck\
@@ -128,6 +139,8 @@ pub fn stepped(plan: &[u8], from: u32, goal: u32) {
         frame_text(s.number, s.outcome),
         &[from, goal, s.number, s.link, s.far],
     );
+    let c = f.crossed;
+    say_crossed(c);
 }
 
 fn say_address(card: u32, number: u32, sum: u32) {

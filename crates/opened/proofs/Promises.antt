@@ -15,10 +15,11 @@ use Rattle.reader.specs.Promises.{Refused-address-empty, No-such-card}
 use Rattle.reader.specs.Reading.{layout-refusal, address-part, address-refusal}
 use Rattle.reader.proofs.Promises.{read-measured, refused-address-empty, no-such-card}
 use Rattle.forwarder.specs.Calls.{step-refusal, walk-refusal}
+use Rattle.crossing.specs.Crossing.{Frame-step-says, Frame-walk-says}
 use Rattle.conference.specs.Conference.{three-refusal, conference-refusal, Conference-says}
 use Rattle.opened.specs.Opening.{carries, opened-bytes, Opening-says, Walk-with-arrival}
 use Rattle.opened.specs.Promises.{Sizes-carried, Carries-exactly, Opening-whole, Twelve-in-every-call, Refused-opening, Other-sizes}
-use Rattle.opened.specs.Promises.{Refused-opening-empty, Opened-frame-arrives, Opened-conference-own, Opened-address-own, Opened-address-refused}
+use Rattle.opened.specs.Promises.{Refused-opening-empty, Opened-frame-arrives, Opened-step-own, Opened-walk-own, Opened-conference-own, Opened-address-own, Opened-address-refused}
 use Rattle.opened.specs.declared.Opened.{Opened}
 use Rattle.opened.proofs.Carrying.{carried-bytes-whole, carried-bytes-none}
 
@@ -73,8 +74,11 @@ module _ (p : Opened) where
   carried-twelve : carried ≡ false → Twelve-in-every-call (opened-bytes p)
   carried-twelve t = subst Twelve-in-every-call (sym (carried-bytes-none ps (p .cards) (p .links) (p .columns) t)) no-bytes-twelve
 
+  layout-whole : layout-holds ps ≡ true → Sizes-carried p → opened-bytes p ≡ ps
+  layout-whole l z = carried-bytes-whole ps (p .cards) (p .links) (p .columns) (sizes-carry l z)
+
   read-whole : plan-refusal ps ≡ 0 → Sizes-carried p → opened-bytes p ≡ ps
-  read-whole h z = carried-bytes-whole ps (p .cards) (p .links) (p .columns) (sizes-carry (read-measured ps h .layout) z)
+  read-whole h = layout-whole (read-measured ps h .layout)
 
 pub carries-exactly : Carries-exactly
 unfolding Carries-exactly
@@ -135,6 +139,14 @@ pub opened-frame-arrives : Opened-frame-arrives
 unfolding Opened-frame-arrives
 opened-frame-arrives p a b t r old new z f c w =
     subst (λ (qs : List ℕ). Walk-with-arrival qs a b t r old new) (read-whole p (f .read) z) w .arrives f c
+
+pub opened-step-own : Opened-step-own
+unfolding Opened-step-own
+opened-step-own p a b r l z says = subst (λ (qs : List ℕ). Frame-step-says qs a b r) (layout-whole p l z) says
+
+pub opened-walk-own : Opened-walk-own
+unfolding Opened-walk-own
+opened-walk-own p a b t r old new l z w = subst (λ (qs : List ℕ). Frame-walk-says qs a b t r old new) (layout-whole p l z) (w .says)
 
 pub opened-conference-own : Opened-conference-own
 unfolding Opened-conference-own

@@ -11,9 +11,10 @@ use Rattle.reader.specs.Plan.{layout-holds, plan-refusal}
 use Rattle.reader.specs.Promises.{Measured}
 use Rattle.reader.specs.Reading.{Slice-is, Read-says}
 use Rattle.reader.specs.declared.layout.Sizes.{Sizes}
-use Rattle.forwarder.specs.Calls.{Walk-says, Frame, Arrived, Full, Can-take}
+use Rattle.forwarder.specs.Calls.{Frame, Arrived, Full, Can-take}
 use Rattle.forwarder.specs.declared.walk.Traffic.{Traffic}
-use Rattle.forwarder.specs.declared.walk.Walked.{Walked}
+use Rattle.crossing.specs.Crossing.{Frame-walk-says}
+use Rattle.crossing.specs.declared.FrameWalk.{FrameWalk}
 use Rattle.opened.specs.declared.Opened.{Opened}
 
 -- the bytes have a plan's layout, and the sizes carried with them are those in them
@@ -42,7 +43,7 @@ pub record Read-with-promise (ps : List ℕ) (r : Sizes) : Type 0 where
   pub promise : r .number ≡ 0 → Measured ps
 
 -- a walk, with demand 3 (docs/REQUIREMENTS.md): a frame that the counts can take arrives by the fewest links, and any other is 15
-pub record Walk-with-arrival (ps : List ℕ) (a b : ℕ) (t : Traffic) (r : Walked) (old new : List ℕ) : Type 0 where
-  pub says : Walk-says ps a b t r old new
-  pub arrives : Frame ps a b old → Can-take t (hops (plan-wiring ps) a b) → Arrived ps a b t r new
-  pub full : Frame ps a b old → (Can-take t (hops (plan-wiring ps) a b) → ⊥) → Full t r old new
+pub record Walk-with-arrival (ps : List ℕ) (a b : ℕ) (t : Traffic) (r : FrameWalk) (old new : List ℕ) : Type 0 where
+  pub says : Frame-walk-says ps a b t r old new
+  pub arrives : Frame ps a b old → Can-take t (hops (plan-wiring ps) a b) → Arrived ps a b t (r .walked) new
+  pub full : Frame ps a b old → (Can-take t (hops (plan-wiring ps) a b) → ⊥) → Full t (r .walked) old new

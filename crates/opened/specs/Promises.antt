@@ -11,7 +11,9 @@ use Rattle.reader.specs.Plan.{layout-holds, plan-refusal}
 use Rattle.reader.specs.Reading.{address-part, address-refusal, Slice-is, Address-says}
 use Rattle.forwarder.specs.Calls.{step-refusal, lent-met, walk-refusal, Frame, Arrived, Can-take}
 use Rattle.forwarder.specs.declared.walk.Traffic.{Traffic}
-use Rattle.forwarder.specs.declared.walk.Walked.{Walked}
+use Rattle.crossing.specs.Crossing.{Frame-step-says, Frame-walk-says}
+use Rattle.crossing.specs.declared.FrameStep.{FrameStep}
+use Rattle.crossing.specs.declared.FrameWalk.{FrameWalk}
 use Rattle.conference.specs.Conference.{conference-refusal, Conference-says}
 use Rattle.conference.specs.declared.Conference.{Conference}
 use Rattle.opened.specs.Opening.{carries, opened-bytes, Opening-says, Walk-with-arrival}
@@ -59,9 +61,21 @@ Other-sizes = (p : Opened) → (Sizes-carried p → ⊥) → Twelve-in-every-cal
 -- demand 3: a frame whose plan was read, and whose carried sizes are those in the bytes, arrives by the fewest links
 unfoldable pub Opened-frame-arrives : Type 0
 Opened-frame-arrives =
-    (p : Opened) (a b : ℕ) (t : Traffic) (r : Walked) (old new : List ℕ) →
+    (p : Opened) (a b : ℕ) (t : Traffic) (r : FrameWalk) (old new : List ℕ) →
     Sizes-carried p → Frame (now (p .bytes)) a b old → Can-take t (hops (plan-wiring (now (p .bytes))) a b) →
-    Walk-with-arrival (opened-bytes p) a b t r old new → Arrived (now (p .bytes)) a b t r new
+    Walk-with-arrival (opened-bytes p) a b t r old new → Arrived (now (p .bytes)) a b t (r .walked) new
+
+-- on a plan with its layout, read or not, whose carried sizes are those in the bytes, a step and a walk answer as on the plan's own bytes: with
+-- their columns, and with what the walk leaves
+unfoldable pub Opened-step-own : Type 0
+Opened-step-own =
+    (p : Opened) (a b : ℕ) (r : FrameStep) → layout-holds (now (p .bytes)) ≡ true → Sizes-carried p →
+    Frame-step-says (opened-bytes p) a b r → Frame-step-says (now (p .bytes)) a b r
+
+unfoldable pub Opened-walk-own : Type 0
+Opened-walk-own =
+    (p : Opened) (a b : ℕ) (t : Traffic) (r : FrameWalk) (old new : List ℕ) → layout-holds (now (p .bytes)) ≡ true → Sizes-carried p →
+    Walk-with-arrival (opened-bytes p) a b t r old new → Frame-walk-says (now (p .bytes)) a b t r old new
 
 -- three cards of a plan that was read, and whose carried sizes are those in the bytes, get the answer of the plan's own bytes
 unfoldable pub Opened-conference-own : Type 0

@@ -5,16 +5,16 @@ ghost use mathlib.Core.Bool.{cond};
 ghost use mathlib.Core.List.{[]};
 ghost use lib.Dec.{eqb};
 ghost use Rattle.reader.specs.Reading.{Slice-is, Address-says, address-refusal};
-ghost use Rattle.forwarder.specs.Calls.{Step-says};
+ghost use Rattle.crossing.specs.Crossing.{Frame-step-says};
 ghost use Rattle.conference.specs.Conference.{Card-or-none, Conference-says};
 ghost use Rattle.opened.specs.Opening.{carries, carried-bytes, Read-with-promise, Walk-with-arrival};
 use conference::Conference;
 use conference::conference_card;
-use forwarder::step::Stepped;
-use forwarder::step::step_checked;
+use crossing::FrameStep;
+use crossing::FrameWalk;
+use crossing::step_frame;
+use crossing::walk_frame;
 use forwarder::walk::Traffic;
-use forwarder::walk::Walked;
-use forwarder::walk::walk_counted;
 use reader::layout::Sizes;
 use reader::layout::plan_layout;
 use reader::read::card_address;
@@ -95,7 +95,7 @@ pub fn address_refusal_carried(bytes: &[u8], cards: u32, links: u32, columns: u3
     number
 }
 
-// A step of a frame: 12, 14.
+// A step of a frame, with the column that it crosses: 12, 14.
 pub fn step_carried(
     bytes: &[u8],
     cards: u32,
@@ -103,13 +103,13 @@ pub fn step_carried(
     columns: u32,
     from: u32,
     goal: u32,
-) -> Stepped
-    ensures { λ r. ⌜ Step-says (carried-bytes (now (bytes .entry)) cards links columns) from goal r ⌝ }
+) -> FrameStep
+    ensures { λ r. ⌜ Frame-step-says (carried-bytes (now (bytes .entry)) cards links columns) from goal r ⌝ }
 {
-    step_checked(carried_bytes(bytes, cards, links, columns), from, goal)
+    step_frame(carried_bytes(bytes, cards, links, columns), from, goal)
 }
 
-// A frame's walk: 1, 12, 14, 15.
+// A frame's walk, with the first column that it crosses: 1, 12, 14, 15.
 pub fn walk_carried(
     bytes: &[u8],
     cards: u32,
@@ -119,10 +119,10 @@ pub fn walk_carried(
     goal: u32,
     traffic: Traffic,
     met: &mut [u16],
-) -> Walked
+) -> FrameWalk
     ensures { λ r. ⌜ Walk-with-arrival (carried-bytes (now (bytes .entry)) cards links columns) from goal traffic r (now (met .entry)) (now (met .exit)) ⌝ }
 {
-    walk_counted(
+    walk_frame(
         carried_bytes(bytes, cards, links, columns),
         from,
         goal,

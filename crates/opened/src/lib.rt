@@ -1,7 +1,7 @@
 // An opened plan: the plan's own bytes with their three sizes. Its methods hand them to the calls of `carried`.
 ghost use mathlib.Core.Path.{_≡_};
 ghost use Rattle.reader.specs.Reading.{Address-says, address-refusal};
-ghost use Rattle.forwarder.specs.Calls.{Step-says};
+ghost use Rattle.crossing.specs.Crossing.{Frame-step-says};
 ghost use Rattle.conference.specs.Conference.{Card-or-none, Conference-says};
 ghost use Rattle.opened.specs.Opening.{Opening-says, Read-with-promise, Walk-with-arrival, opened-bytes};
 use crate::carried::address_carried;
@@ -12,9 +12,9 @@ use crate::carried::read_carried;
 use crate::carried::step_carried;
 use crate::carried::walk_carried;
 use conference::Conference;
-use forwarder::step::Stepped;
+use crossing::FrameStep;
+use crossing::FrameWalk;
 use forwarder::walk::Traffic;
-use forwarder::walk::Walked;
 use reader::layout::Sizes;
 use reader::read::read_plan;
 
@@ -66,15 +66,15 @@ impl<'a> Opened<'a> {
         address_refusal_carried(self.bytes, self.cards, self.links, self.columns, card)
     }
 
-    // A step of a frame: 12, 14.
-    pub fn step(self, from: u32, goal: u32) -> Stepped
-        ensures { λ r. ⌜ Step-says (opened-bytes (self .entry)) from goal r ⌝ }
+    // A step of a frame, with the column that it crosses: 12, 14.
+    pub fn step(self, from: u32, goal: u32) -> FrameStep
+        ensures { λ r. ⌜ Frame-step-says (opened-bytes (self .entry)) from goal r ⌝ }
     {
         step_carried(self.bytes, self.cards, self.links, self.columns, from, goal)
     }
 
-    // A frame's walk: 1, 12, 14, 15. The counts go in and come back; stuck is an answer and changes neither.
-    pub fn walk(self, from: u32, goal: u32, traffic: Traffic, met: &mut [u16]) -> Walked
+    // A frame's walk, with the first column that it crosses: 1, 12, 14, 15. The counts go in and come back; stuck is an answer and changes neither.
+    pub fn walk(self, from: u32, goal: u32, traffic: Traffic, met: &mut [u16]) -> FrameWalk
         ensures { λ r. ⌜ Walk-with-arrival (opened-bytes (self .entry)) from goal traffic r (now (met .entry)) (now (met .exit)) ⌝ }
     {
         walk_carried(

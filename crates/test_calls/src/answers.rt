@@ -1,10 +1,11 @@
 // Answers taken apart for the tests: the number is returned, the other fields go into lent numbers, in their order.
 ghost use mathlib.Core.Path.{_≡_};
-ghost use lib.ListN.{length};
-ghost use Rattle.test_calls.specs.Answers.{answer-in, conference-in, sizes-in, stepped-in, walked-in};
+ghost use lib.ListN.{length, replicate};
+ghost use Rattle.test_calls.specs.Answers.{answer-in, conference-in, frame-step-in, frame-walk-in, places-in, sizes-in};
 use conference::Conference;
-use forwarder::step::Stepped;
-use forwarder::walk::Walked;
+use crossing::FrameStep;
+use crossing::FrameWalk;
+use crossing::places::Places;
 use planner::Answer;
 use reader::layout::Sizes;
 
@@ -38,23 +39,47 @@ pub fn put_sizes(s: Sizes, answer: &mut [u32]) -> u32
     s.number
 }
 
-// The outcome, the link and the far card.
-pub fn put_step(s: Stepped, answer: &mut [u32]) -> u32
-    requires { ⌜ length (now answer) ≡ 3 ⌝ }
-    ensures { λ r. ⌜ stepped-in r (now (answer .exit)) ≡ s ⌝ }
+// The outcome, the link and the far card; 1 for a column or 0 for none, and the column.
+pub fn put_step(s: FrameStep, answer: &mut [u32]) -> u32
+    requires { ⌜ length (now answer) ≡ 5 ⌝ }
+    ensures { λ r. ⌜ frame-step-in r (now (answer .exit)) ≡ s ⌝ }
 {
-    put_fields(&[s.outcome, s.link, s.far], answer);
-    s.number
+    let t = s.stepped;
+    let c = s.crossed;
+    put_fields(&[t.outcome, t.link, t.far, c.found, c.column], answer);
+    t.number
 }
 
-// How it ended, its hops, and the counts.
-pub fn put_walk(w: Walked, answer: &mut [u32]) -> u32
-    requires { ⌜ length (now answer) ≡ 4 ⌝ }
-    ensures { λ r. ⌜ walked-in r (now (answer .exit)) ≡ w ⌝ }
+// How it ended, its hops, and the counts; 1 for a column or 0 for none, and the column.
+pub fn put_walk(f: FrameWalk, answer: &mut [u32]) -> u32
+    requires { ⌜ length (now answer) ≡ 6 ⌝ }
+    ensures { λ r. ⌜ frame-walk-in r (now (answer .exit)) ≡ f ⌝ }
 {
+    let w = f.walked;
     let t = w.traffic;
-    put_fields(&[w.arrived, w.hops, t.frames, t.hops], answer);
+    let c = f.crossed;
+    put_fields(
+        &[w.arrived, w.hops, t.frames, t.hops, c.found, c.column],
+        answer,
+    );
     w.number
+}
+
+// How many places differ; 1 for a column or 0 for none, and the column.
+pub fn put_places(p: Places, answer: &mut [u32])
+    requires { ⌜ length (now answer) ≡ 3 ⌝ }
+    ensures { λ _. ⌜ places-in (now (answer .exit)) ≡ p ⌝ }
+{
+    let c = p.first;
+    put_fields(&[p.count, c.found, c.column], answer);
+}
+
+// Zeros in place of these three.
+pub fn put_no_places(answer: &mut [u32])
+    requires { ⌜ length (now answer) ≡ 3 ⌝ }
+    ensures { λ _. ⌜ now (answer .exit) ≡ replicate 3 0 ⌝ }
+{
+    put_fields(&[0, 0, 0], answer);
 }
 
 // 1 for a card or 0 for none, and the card.

@@ -1,10 +1,10 @@
 // The calls on an opened plan, over its bytes and any three sizes.
 ghost use mathlib.Core.Path.{_≡_};
 ghost use Rattle.reader.specs.Reading.{Address-says, Read-says, address-refusal};
-ghost use Rattle.forwarder.specs.Calls.{Step-says, Walk-says};
+ghost use Rattle.crossing.specs.Crossing.{Frame-step-says, Frame-walk-says};
 ghost use Rattle.conference.specs.Conference.{Conference-says};
 ghost use Rattle.opened.specs.Opening.{carried-bytes};
-ghost use Rattle.test_calls.specs.Answers.{Answered, conference-in, counts, sizes-in, stepped-in, walked-in};
+ghost use Rattle.test_calls.specs.Answers.{Answered, conference-in, counts, frame-step-in, frame-walk-in, sizes-in};
 use crate::answers::put_conference;
 use crate::answers::put_sizes;
 use crate::answers::put_step;
@@ -74,9 +74,9 @@ pub extern "C" fn test_step_carried(
     goal: u32,
     answer: &mut [u32],
 ) -> u32
-    ensures { λ r. ⌜ Answered 3 r (now (answer .entry)) (now (answer .exit)) Unit (Step-says (carried-bytes (now (bytes .entry)) cards links columns) from goal (stepped-in r (now (answer .exit)))) ⌝ }
+    ensures { λ r. ⌜ Answered 5 r (now (answer .entry)) (now (answer .exit)) Unit (Frame-step-says (carried-bytes (now (bytes .entry)) cards links columns) from goal (frame-step-in r (now (answer .exit)))) ⌝ }
 {
-    if answer.len() != 3 {
+    if answer.len() != 5 {
         return 1;
     }
     put_step(
@@ -99,9 +99,9 @@ pub extern "C" fn test_walk_carried(
     met: &mut [u16],
     answer: &mut [u32],
 ) -> u32
-    ensures { λ r. ⌜ Answered 4 r (now (answer .entry)) (now (answer .exit)) (now (met .exit) ≡ now (met .entry)) (Walk-says (carried-bytes (now (bytes .entry)) cards links columns) from goal (counts frames hops) (walked-in r (now (answer .exit))) (now (met .entry)) (now (met .exit))) ⌝ }
+    ensures { λ r. ⌜ Answered 6 r (now (answer .entry)) (now (answer .exit)) (now (met .exit) ≡ now (met .entry)) (Frame-walk-says (carried-bytes (now (bytes .entry)) cards links columns) from goal (counts frames hops) (frame-walk-in r (now (answer .exit))) (now (met .entry)) (now (met .exit))) ⌝ }
 {
-    if answer.len() != 4 {
+    if answer.len() != 6 {
         return 1;
     }
     let traffic = Traffic {

@@ -4,20 +4,25 @@
 ghost use mathlib.Core.Path.{_≡_};
 ghost use Rattle.planner.specs.Planning.{Plan-says};
 ghost use Rattle.reader.specs.Reading.{Address-says, address-refusal};
-ghost use Rattle.forwarder.specs.Calls.{Step-says, Walk-says};
+ghost use Rattle.crossing.specs.Crossing.{Frame-step-says, Frame-walk-says};
 ghost use Rattle.conference.specs.Conference.{Conference-says};
 ghost use Rattle.listing_text.specs.Listing.{Listing-says};
-ghost use Rattle.test_calls.specs.Answers.{Answered, answer-in, conference-in, counts, stepped-in, walked-in};
+ghost use Rattle.test_calls.specs.Answers.{Answered, Places-say, answer-in, conference-in, counts, frame-step-in, frame-walk-in};
 use answers::put_answer;
 use answers::put_conference;
+use answers::put_no_places;
+use answers::put_places;
 use answers::put_step;
 use answers::put_walk;
 use conference::conference_card;
-use forwarder::step::step_checked;
+use crossing::places::plan_places;
+use crossing::step_frame;
+use crossing::walk_frame;
+use forwarder::step::frame_sizes;
 use forwarder::walk::Traffic;
-use forwarder::walk::walk_counted;
 use listing_text::listing_text;
 use planner::plan_rack;
+use rack::ones::ones_table;
 use reader::read::card_address;
 
 mod answers;
@@ -62,18 +67,41 @@ pub extern "C" fn test_card_address<'a>(plan: &'a [u8], card: u32, part: &mut &'
     number
 }
 
-// A step: 1, 12, 14. The fields are its outcome, the link and the far card.
+// The differing places of two cards on a plan with its layout: 1, 12, 14. The fields are their number, 1 for a column or 0 for none, and
+// the lowest column; zeros with a refusal.
 #[no_mangle]
-pub extern "C" fn test_step_frame(plan: &[u8], from: u32, goal: u32, answer: &mut [u32]) -> u32
-    ensures { λ r. ⌜ Answered 3 r (now (answer .entry)) (now (answer .exit)) Unit (Step-says (now (plan .entry)) from goal (stepped-in r (now (answer .exit)))) ⌝ }
+pub extern "C" fn test_plan_places(plan: &[u8], a: u32, b: u32, answer: &mut [u32]) -> u32
+    ensures { λ r. ⌜ Answered 3 r (now (answer .entry)) (now (answer .exit)) Unit (Places-say (now (plan .entry)) a b r (now (answer .exit))) ⌝ }
 {
     if answer.len() != 3 {
         return 1;
     }
-    put_step(step_checked(plan, from, goal), answer)
+    let sizes = frame_sizes(plan, a, b);
+    if sizes.number != 0 {
+        put_no_places(answer);
+        return sizes.number;
+    }
+    let ones = ones_table();
+    put_places(
+        plan_places(&ones, plan, sizes, a as usize, b as usize),
+        answer,
+    );
+    0
 }
 
-// A walk: 1, 12, 14, 15. The fields are 1 for arrived or 0 for stuck, the hops, and the two counts.
+// A step: 1, 12, 14. The fields are its outcome, the link and the far card, 1 for a column or 0 for none, and the column.
+#[no_mangle]
+pub extern "C" fn test_step_frame(plan: &[u8], from: u32, goal: u32, answer: &mut [u32]) -> u32
+    ensures { λ r. ⌜ Answered 5 r (now (answer .entry)) (now (answer .exit)) Unit (Frame-step-says (now (plan .entry)) from goal (frame-step-in r (now (answer .exit)))) ⌝ }
+{
+    if answer.len() != 5 {
+        return 1;
+    }
+    put_step(step_frame(plan, from, goal), answer)
+}
+
+// A walk: 1, 12, 14, 15. The fields are 1 for arrived or 0 for stuck, the hops, the two counts, 1 for a column or 0 for none,
+// and the column.
 #[no_mangle]
 pub extern "C" fn test_walk_frame(
     plan: &[u8],
@@ -84,16 +112,16 @@ pub extern "C" fn test_walk_frame(
     met: &mut [u16],
     answer: &mut [u32],
 ) -> u32
-    ensures { λ r. ⌜ Answered 4 r (now (answer .entry)) (now (answer .exit)) (now (met .exit) ≡ now (met .entry)) (Walk-says (now (plan .entry)) from goal (counts frames hops) (walked-in r (now (answer .exit))) (now (met .entry)) (now (met .exit))) ⌝ }
+    ensures { λ r. ⌜ Answered 6 r (now (answer .entry)) (now (answer .exit)) (now (met .exit) ≡ now (met .entry)) (Frame-walk-says (now (plan .entry)) from goal (counts frames hops) (frame-walk-in r (now (answer .exit))) (now (met .entry)) (now (met .exit))) ⌝ }
 {
-    if answer.len() != 4 {
+    if answer.len() != 6 {
         return 1;
     }
     let traffic = Traffic {
         frames: frames,
         hops: hops,
     };
-    put_walk(walk_counted(plan, from, goal, traffic, met), answer)
+    put_walk(walk_frame(plan, from, goal, traffic, met), answer)
 }
 
 // A conference card: 1, 12, 13, 14. The fields are 1 for a card or 0 for none, and the card.

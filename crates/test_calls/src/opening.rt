@@ -1,24 +1,24 @@
 // Plans that are opened and then stepped and walked on, by the methods themselves.
 ghost use mathlib.Core.Path.{_≡_};
-ghost use Rattle.forwarder.specs.Calls.{Step-says, Walk-says};
-ghost use Rattle.test_calls.specs.Answers.{Answered, counts, opened-for, stepped-in, walked-in};
+ghost use Rattle.crossing.specs.Crossing.{Frame-step-says, Frame-walk-says};
+ghost use Rattle.test_calls.specs.Answers.{Answered, counts, frame-step-in, frame-walk-in, opened-for};
 use crate::answers::put_step;
 use crate::answers::put_walk;
-use forwarder::step::Stepped;
+use crossing::FrameStep;
+use crossing::FrameWalk;
 use forwarder::walk::Traffic;
-use forwarder::walk::Walked;
 use opened::open_plan;
 
 // Opens a plan and steps on it.
-fn open_and_step(bytes: &[u8], from: u32, goal: u32) -> Stepped
-    ensures { λ r. ⌜ Step-says (opened-for (now (bytes .entry))) from goal r ⌝ }
+fn open_and_step(bytes: &[u8], from: u32, goal: u32) -> FrameStep
+    ensures { λ r. ⌜ Frame-step-says (opened-for (now (bytes .entry))) from goal r ⌝ }
 {
     open_plan(bytes).step(from, goal)
 }
 
 // Opens a plan and walks on it.
-fn open_and_walk(bytes: &[u8], from: u32, goal: u32, traffic: Traffic, met: &mut [u16]) -> Walked
-    ensures { λ r. ⌜ Walk-says (opened-for (now (bytes .entry))) from goal traffic r (now (met .entry)) (now (met .exit)) ⌝ }
+fn open_and_walk(bytes: &[u8], from: u32, goal: u32, traffic: Traffic, met: &mut [u16]) -> FrameWalk
+    ensures { λ r. ⌜ Frame-walk-says (opened-for (now (bytes .entry))) from goal traffic r (now (met .entry)) (now (met .exit)) ⌝ }
 {
     open_plan(bytes).walk(from, goal, traffic, met)
 }
@@ -26,9 +26,9 @@ fn open_and_walk(bytes: &[u8], from: u32, goal: u32, traffic: Traffic, met: &mut
 // A step on an opened plan: 1, 12, 14.
 #[no_mangle]
 pub extern "C" fn test_opened_step(bytes: &[u8], from: u32, goal: u32, answer: &mut [u32]) -> u32
-    ensures { λ r. ⌜ Answered 3 r (now (answer .entry)) (now (answer .exit)) Unit (Step-says (opened-for (now (bytes .entry))) from goal (stepped-in r (now (answer .exit)))) ⌝ }
+    ensures { λ r. ⌜ Answered 5 r (now (answer .entry)) (now (answer .exit)) Unit (Frame-step-says (opened-for (now (bytes .entry))) from goal (frame-step-in r (now (answer .exit)))) ⌝ }
 {
-    if answer.len() != 3 {
+    if answer.len() != 5 {
         return 1;
     }
     put_step(open_and_step(bytes, from, goal), answer)
@@ -45,9 +45,9 @@ pub extern "C" fn test_opened_walk(
     met: &mut [u16],
     answer: &mut [u32],
 ) -> u32
-    ensures { λ r. ⌜ Answered 4 r (now (answer .entry)) (now (answer .exit)) (now (met .exit) ≡ now (met .entry)) (Walk-says (opened-for (now (bytes .entry))) from goal (counts frames hops) (walked-in r (now (answer .exit))) (now (met .entry)) (now (met .exit))) ⌝ }
+    ensures { λ r. ⌜ Answered 6 r (now (answer .entry)) (now (answer .exit)) (now (met .exit) ≡ now (met .entry)) (Frame-walk-says (opened-for (now (bytes .entry))) from goal (counts frames hops) (frame-walk-in r (now (answer .exit))) (now (met .entry)) (now (met .exit))) ⌝ }
 {
-    if answer.len() != 4 {
+    if answer.len() != 6 {
         return 1;
     }
     let traffic = Traffic {

@@ -1,8 +1,8 @@
 -- 1 comes first; else the answer is put as it is. Assumes nothing.
 use mathlib.Core.Path.{refl}
 use native.Mathlib.Omega.{arith}
-use Rattle.forwarder.specs.Calls.{Walk-says}
-use Rattle.forwarder.specs.declared.walk.Walked.{Walked}
+use Rattle.crossing.specs.Crossing.{Frame-walk-says}
+use Rattle.crossing.specs.declared.FrameWalk.{FrameWalk}
 use Rattle.test_calls.specs.Answers.{counts}
 use Rattle.test_calls.proofs.Lent.{answered, not-lent}
 use borrow.Author.Needs.{needs}
@@ -12,8 +12,8 @@ use Rattle.test_calls.proofs.test_walk_frame.Tie as tie
 returns : tie.Need-returns
 returns c = not-lent (λ e. omega arith) refl
 
-walk-counted-requires : tie.Need-walk-counted-requires
-walk-counted-requires c κs = search needs
+walk-frame-requires : tie.Need-walk-frame-requires
+walk-frame-requires c κs = search needs
 
 put-walk-requires : tie.Need-put-walk-requires
 put-walk-requires c κs = search needs
@@ -27,12 +27,12 @@ same-length-2 c = search needs
 returns-2 : tie.Need-returns-2
 returns-2 c =
     let a = c .before .before .before .before .before .before .before .before .before .before .before .before .args in
-    let walked = c .before .before .before .before .before .before .walk-counted in
-    answered (λ (w : Walked). Walk-says (a .plan .now) (a .from) (a .goal)
+    let walked = c .before .before .before .before .before .before .walk-frame in
+    answered (λ (w : FrameWalk). Frame-walk-says (a .plan .now) (a .from) (a .goal)
     (counts (a .frames) (a .hops)) w (a .met .now) (walked .last .1 .1 .1 .1 .0)) (omega arith)
     (c .before .before .put-walk .ensures) (walked .ensures .0)
 
 pub test-walk-frame-spec : {M : Type 1} → statement M
 test-walk-frame-spec =
     tie.close
-    (tie.spec returns walk-counted-requires put-walk-requires same-length same-length-2 returns-2)
+    (tie.spec returns walk-frame-requires put-walk-requires same-length same-length-2 returns-2)

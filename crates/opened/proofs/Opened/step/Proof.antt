@@ -26,8 +26,8 @@ use Rattle.opened.specs.declared.Opened.{Opened}
 use Rattle.opened.proofs.Opened.Laws as T′
 use Rattle.opened.proofs.Held.{bytes-value}
 use Rattle.opened.proofs.Methods.{number-slot, Typed-plan, Takes-apart, method-meets}
-use Rattle.forwarder.proofs.step.Stepped as Y
-use Rattle.forwarder.proofs.step.Stepped.Laws as Y′
+use Rattle.crossing.proofs.FrameStep as Y
+use Rattle.crossing.proofs.FrameStep.Laws as Y′
 use Rattle.opened.proofs.carried.step_carried as callee
 use Rattle.opened.proofs.carried.step_carried.Symbol as callee-def
 use Rattle.opened.proofs.carried.step_carried.Symbol.{name as #opened·carried·step-carried}

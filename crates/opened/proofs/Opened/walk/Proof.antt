@@ -30,8 +30,8 @@ use Rattle.opened.specs.declared.Opened.{Opened}
 use Rattle.opened.proofs.Opened.Laws as T′
 use Rattle.opened.proofs.Held.{bytes-value}
 use Rattle.opened.proofs.Methods.{number-slot, Typed-plan, Takes-apart, method-meets}
-use Rattle.forwarder.proofs.walk.Walked as Y
-use Rattle.forwarder.proofs.walk.Walked.Laws as Y′
+use Rattle.crossing.proofs.FrameWalk as Y
+use Rattle.crossing.proofs.FrameWalk.Laws as Y′
 use Rattle.forwarder.specs.declared.walk.Traffic.{Traffic}
 use Rattle.forwarder.proofs.walk.Traffic as X
 use Rattle.forwarder.proofs.walk.Traffic.Laws as X′

@@ -6,11 +6,11 @@ use Rattle.opened.proofs.carried.step_carried.Tie as tie
 carried-bytes-requires : tie.Need-carried-bytes-requires
 carried-bytes-requires c κs = search needs
 
-step-checked-requires : tie.Need-step-checked-requires
-step-checked-requires c κs = search needs
+step-frame-requires : tie.Need-step-frame-requires
+step-frame-requires c κs = search needs
 
 returns : tie.Need-returns
-returns c = rw (c .before .carried-bytes .ensures .bytes) at (c .step-checked .ensures)
+returns c = rw (c .before .carried-bytes .ensures .bytes) at (c .step-frame .ensures)
 
 pub step-carried-spec : {M : Type 1} → statement M
-step-carried-spec = tie.close (tie.spec carried-bytes-requires step-checked-requires returns)
+step-carried-spec = tie.close (tie.spec carried-bytes-requires step-frame-requires returns)

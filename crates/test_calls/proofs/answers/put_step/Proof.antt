@@ -1,6 +1,6 @@
 -- The fields are read back as they were put. Assumes nothing.
 use mathlib.Core.Path.{ap}
-use Rattle.test_calls.specs.Answers.{stepped-in}
+use Rattle.test_calls.specs.Answers.{frame-step-in}
 use borrow.Author.Needs.{needs}
 use Rattle.test_calls.proofs.answers.put_step.Statement.{statement}
 use Rattle.test_calls.proofs.answers.put_step.Tie as tie
@@ -16,7 +16,7 @@ same-length c = search needs
 
 returns : tie.Need-returns
 returns c =
-    ap (stepped-in (c .before .before .before .before .before .before .args .s .number))
+    ap (frame-step-in (c .before .before .before .before .before .before .before .before .args .s .stepped .number))
     (c .before .before .put-fields .ensures)
 
 pub put-step-spec : {M : Type 1} → statement M

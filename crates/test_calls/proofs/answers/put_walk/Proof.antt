@@ -1,6 +1,6 @@
 -- The fields are read back as they were put. Assumes nothing.
 use mathlib.Core.Path.{ap}
-use Rattle.test_calls.specs.Answers.{walked-in}
+use Rattle.test_calls.specs.Answers.{frame-walk-in}
 use borrow.Author.Needs.{needs}
 use Rattle.test_calls.proofs.answers.put_walk.Statement.{statement}
 use Rattle.test_calls.proofs.answers.put_walk.Tie as tie
@@ -16,7 +16,7 @@ same-length c = search needs
 
 returns : tie.Need-returns
 returns c =
-    ap (walked-in (c .before .before .before .before .before .before .before .args .w .number))
+    ap (frame-walk-in (c .before .before .before .before .before .before .before .before .before .args .f .walked .number))
     (c .before .before .put-fields .ensures)
 
 pub put-walk-spec : {M : Type 1} → statement M

@@ -40,10 +40,10 @@ use denote.Triple.Table.{entered, cited}
 use denote.Triple.Walked.{says, Stays, stay-none-slice, walkOf, goes-none-slice, Walks, ends-at, walked, walk-meets}
 use denote.Exit.{yes}
 use denote.Triple.Clauses.{ensured, lasts}
-use Rattle.forwarder.specs.Calls.{Step-says}
-use Rattle.forwarder.specs.declared.step.Stepped.{Stepped}
-use Rattle.forwarder.proofs.step.Stepped as Y
-use Rattle.forwarder.proofs.step.Stepped.Laws as Y′
+use Rattle.crossing.specs.Crossing.{Frame-step-says}
+use Rattle.crossing.specs.declared.FrameStep.{FrameStep}
+use Rattle.crossing.proofs.FrameStep as Y
+use Rattle.crossing.proofs.FrameStep.Laws as Y′
 use Rattle.opened.specs.Opening.{opened-bytes}
 use Rattle.opened.specs.declared.Opened.{Opened}
 use Rattle.opened.proofs.Opened as T
@@ -119,8 +119,8 @@ module _ {M : Type 1} (𝓤 : URA M) (H : Heap 𝓤) (A : Atoms 𝓤) (W : Given
   abbrev to-steps : Opened → Val → Steps 𝓤 H A mem run .Ghost
   to-steps d u = (((κ, tt), (q, tt), tt, (d, cards), (u ∷ [], cards-at)), tt)
 
-  abbrev Is-stepped : Opened → Stepped → Type 0
-  Is-stepped d r = Step-says (opened-bytes d) origin goal r
+  abbrev Is-stepped : Opened → FrameStep → Type 0
+  Is-stepped d r = Frame-step-says (opened-bytes d) origin goal r
 
   goes-steps : (d : Opened) (u : Val)
       → ent 𝓤 (⋆ 𝓤 H A (‵ (B (κ, tt) .own d (u ∷ [])) ∷ (‵ (flft κ q) ⊛ ‵ ftrue) ∷ [])) (Steps 𝓤 H A mem run .pre (to-steps d u))
@@ -128,17 +128,17 @@ module _ {M : Type 1} (𝓤 : URA M) (H : Heap 𝓤) (A : Atoms 𝓤) (W : Given
       qed W (‵ (B (κ, tt) .own d (u ∷ [])) ∷ (‵ (flft κ q) ⊛ ‵ ftrue) ∷ []) ∵ nothing ! $ number-owned ! goal ok₁ $ number-owned ! origin ok₀ $
       move ! (1 ∷ 0 ∷ []) $ fjoin ! $ move ! (1 ∷ 0 ∷ []) $ join ! $ frame ! $ done !
 
-  steps-said : (d : Opened) (r : Stepped)
+  steps-said : (d : Opened) (r : FrameStep)
       → ent 𝓤 (ensured 𝓤 H A steps.ended (steps.clauses 𝓤 H A mem run) (κ, tt) (d, cards) tt r) (fact 𝓤 (Is-stepped d r))
   steps-said d r = exE 𝓤 _ (λ ws. snd∗ 𝓤 (sem 𝓤 H A (lasts steps.ended (κ, tt) (d, cards) ws)) (fact 𝓤 (Is-stepped d r)))
 
-  exits : (d : Opened) (r : Stepped) (u : Val) → Is-opened s d → Is-stepped d r
+  exits : (d : Opened) (r : FrameStep) (u : Val) → Is-opened s d → Is-stepped d r
       → ent 𝓤 (⋆ 𝓤 H A (‵ (R .own r (u ∷ [])) ∷ (‵ (flft κ q) ⊛ ‵ ftrue) ∷ ‵ Own ∷ [])) (Post u)
   exits d r u e e′ =
       qed W (‵ (R .own r (u ∷ [])) ∷ (‵ (flft κ q) ⊛ ‵ ftrue) ∷ ‵ Own ∷ []) ∵
       suffices ! _ (ends-at 𝓤 H A this.ended stayed (this.clauses 𝓤 H A mem run) W (((κ, tt), (q, tt), tt, args, at), tt) u r
       (tt, (tt, (tt, tt))) (tt, (tt, (tt, tt)))) $
-      says ! (subst (λ (bs : List ℕ). Step-says bs origin goal r) (opened-seen (now s) (s .ptr) d e) e′) $
+      says ! (subst (λ (bs : List ℕ). Frame-step-says bs origin goal r) (opened-seen (now s) (s .ptr) d e) e′) $
       move ! (1 ∷ []) $ frame ! $ nothing ! $ number-owned ! goal ok₁ $ number-owned ! origin ok₀ $ move ! (2 ∷ 0 ∷ []) $ fjoin ! $ frame ! $ done !
 
   module _ (C : Calls 𝓤 H) (Λ : Loops 𝓤 H) (fm : FmC 𝓤 H (W .laws) C) (known-opens : Triple 𝓤 (C #opened·open-plan) (Opens 𝓤 H A mem run))
@@ -165,7 +165,7 @@ module _ {M : Type 1} (𝓤 : URA M) (H : Heap 𝓤) (A : Atoms 𝓤) (W : Given
         use2 W (raw (Steps 𝓤 H A mem run .pre (to-steps d u))) (goes-steps d u) $
         calls-at ! fm (Steps 𝓤 H A mem run) known-steps (to-steps d u) (and-then ! (load ! (from ! (stop !)) (look ! 2 refl))
         (and-then ! (load ! (from ! (stop !)) (look ! 6 refl)) (and-then ! (load ! (from ! (stop !)) (look ! 4 refl)) (no-more !)))) (λ u′.
-        use1 W (later (some (λ (r : Stepped). ((‵ (flft κ q) ⊛ ‵ ftrue) ⊛ ‵ (R .own r (u′ ∷ [])))
+        use1 W (later (some (λ (r : FrameStep). ((‵ (flft κ q) ⊛ ‵ ftrue) ⊛ ‵ (R .own r (u′ ∷ [])))
         ⊛ raw (ensured 𝓤 H A steps.ended (steps.clauses 𝓤 H A mem run) (κ, tt) (d, cards) tt r)))) (id⊢ 𝓤 _) $ await ! tt $ pick ! (λ r.
         split ! $ move ! (1 ∷ []) $ use1 W (raw (fact 𝓤 (Is-stepped d r))) (steps-said d r) $ heard ! (Is-stepped d r) (λ e′.
         split ! $ move ! (1 ∷ []) $

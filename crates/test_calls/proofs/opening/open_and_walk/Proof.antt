@@ -43,13 +43,13 @@ use denote.Triple.Walked.{says, Stays, stay-none, stay-none-slice, gave-slice, w
 use denote.Triple.Walked.{Walks, ends-at, walked, walk-meets}
 use denote.Exit.{yes}
 use denote.Triple.Clauses.{Lasts, ensured, lasts}
-use Rattle.forwarder.specs.Calls.{Walk-says}
+use Rattle.crossing.specs.Crossing.{Frame-walk-says}
 use Rattle.forwarder.specs.declared.walk.Traffic.{Traffic}
-use Rattle.forwarder.specs.declared.walk.Walked.{Walked}
+use Rattle.crossing.specs.declared.FrameWalk.{FrameWalk}
 use Rattle.forwarder.proofs.walk.Traffic as X
 use Rattle.forwarder.proofs.walk.Traffic.Laws as X′
-use Rattle.forwarder.proofs.walk.Walked as Y
-use Rattle.forwarder.proofs.walk.Walked.Laws as Y′
+use Rattle.crossing.proofs.FrameWalk as Y
+use Rattle.crossing.proofs.FrameWalk.Laws as Y′
 use Rattle.opened.specs.Opening.{opened-bytes, Walk-with-arrival}
 use Rattle.opened.specs.declared.Opened.{Opened}
 use Rattle.opened.proofs.Opened as T
@@ -146,7 +146,7 @@ module _ {M : Type 1} (𝓤 : URA M) (H : Heap 𝓤) (A : Atoms 𝓤) (W : Given
   abbrev to-walks : Opened → Val → Walks-on 𝓤 H A mem run .Ghost
   to-walks d u = (((κ, (κ′, tt)), (q, (q′, tt)), tt, (d, others), (u ∷ [], others-at)), tt)
 
-  abbrev Is-walked : Opened → Walked → List ℕ → Type 0
+  abbrev Is-walked : Opened → FrameWalk → List ℕ → Type 0
   Is-walked d r zs = Walk-with-arrival (opened-bytes d) origin goal traffic r ys zs
 
   goes-walks : (d : Opened) (u : Val)
@@ -160,13 +160,13 @@ module _ {M : Type 1} (𝓤 : URA M) (H : Heap 𝓤) (A : Atoms 𝓤) (W : Given
       owned ! X.the-row (Is X.the-row) (LL.makes X.the-type X′.the-plain 𝓤 H A) traffic _ ok₂ $ fjoin ! $ number-owned ! goal ok₁ $
       number-owned ! origin ok₀ $ move ! (2 ∷ 0 ∷ []) $ fjoin ! $ move ! (1 ∷ 0 ∷ []) $ join ! $ frame ! $ done !
 
-  exits : (d : Opened) (r : Walked) (u : Val) (zs : List ℕ) → Is-opened s d → Is-walked d r zs → length zs ≡ length ys → ent 𝓤
+  exits : (d : Opened) (r : FrameWalk) (u : Val) (zs : List ℕ) → Is-opened s d → Is-walked d r zs → length zs ≡ length ys → ent 𝓤
       (⋆ 𝓤 H A (‵ (R .own r (u ∷ [])) ∷ (‵ (flft κ q) ⊛ ‵ (flft κ′ q′) ⊛ ‵ ftrue) ∷ ‵ Own ∷ ‵ (finally u16 γ zs) ∷ [])) (Post u)
   exits d r u zs e e′ l =
       qed W (‵ (R .own r (u ∷ [])) ∷ (‵ (flft κ q) ⊛ ‵ (flft κ′ q′) ⊛ ‵ ftrue) ∷ ‵ Own ∷ ‵ (finally u16 γ zs) ∷ []) ∵
       suffices ! _ (ends-at 𝓤 H A this.ended stayed (this.clauses 𝓤 H A mem run) W (((κ, (κ′, tt)), (q, (q′, tt)), tt, args, at), tt) u r
       (tt, (tt, (tt, (tt, (zs, tt))))) (tt, (tt, (tt, (tt, (l, tt)))))) $
-      says ! (subst (λ (bs : List ℕ). Walk-says bs origin goal traffic r ys zs) (opened-seen (now s) (s .ptr) d e) (e′ .says)) $
+      says ! (subst (λ (bs : List ℕ). Frame-walk-says bs origin goal traffic r ys zs) (opened-seen (now s) (s .ptr) d e) (e′ .says)) $
       move ! (1 ∷ []) $ frame ! $ nothing ! $ move ! (3 ∷ 0 ∷ []) $ fjoin ! $
       owned ! X.the-row (Is X.the-row) (LL.makes X.the-type X′.the-plain 𝓤 H A) traffic _ ok₂ $ fjoin ! $ number-owned ! goal ok₁ $
       number-owned ! origin ok₀ $ move ! (2 ∷ 0 ∷ []) $ fjoin ! $ frame ! $ done !
@@ -208,7 +208,7 @@ module _ {M : Type 1} (𝓤 : URA M) (H : Heap 𝓤) (A : Atoms 𝓤) (W : Given
         (and-then ! (load ! (from ! (stop !)) (look ! 6 refl)) (and-then ! (load ! (from ! (stop !)) (look ! 14 refl))
         (and-then ! (load ! (from ! (stop !)) (look ! 12 refl)) (and-then ! (load ! (from ! (stop !)) (look ! 10 refl))
         (and-then ! (load ! (from ! (stop !)) (look ! 2 refl)) (no-more !)))))) (λ u′.
-        use1 W (later (some (λ (r : Walked). ((‵ (flft κ q) ⊛ ‵ (flft κ′ q′) ⊛ ‵ ftrue) ⊛ ‵ (R .own r (u′ ∷ [])))
+        use1 W (later (some (λ (r : FrameWalk). ((‵ (flft κ q) ⊛ ‵ (flft κ′ q′) ⊛ ‵ ftrue) ⊛ ‵ (R .own r (u′ ∷ [])))
         ⊛ raw (ensured 𝓤 H A walks.ended (walks.clauses 𝓤 H A mem run) (κ, (κ′, tt)) (d, others) tt r)))) (id⊢ 𝓤 _) $ await ! tt $ pick ! (λ r.
         split ! $ move ! (1 ∷ []) $
         use1 W (some (λ (zss : Lasts walks.ended (κ, (κ′, tt)) (d, others)). ‵ (lasts walks.ended (κ, (κ′, tt)) (d, others) zss) ⊛ raw

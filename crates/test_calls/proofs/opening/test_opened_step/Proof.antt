@@ -1,7 +1,7 @@
 -- 1 comes first; else the answer is put as it is. Assumes nothing.
 use native.Mathlib.Omega.{arith}
-use Rattle.forwarder.specs.Calls.{Step-says}
-use Rattle.forwarder.specs.declared.step.Stepped.{Stepped}
+use Rattle.crossing.specs.Crossing.{Frame-step-says}
+use Rattle.crossing.specs.declared.FrameStep.{FrameStep}
 use Rattle.test_calls.specs.Answers.{opened-for}
 use Rattle.test_calls.proofs.Lent.{answered, not-lent}
 use borrow.Author.Needs.{needs}
@@ -23,7 +23,7 @@ same-length c = search needs
 returns-2 : tie.Need-returns-2
 returns-2 c =
     let a = c .before .before .before .before .before .before .before .before .args in
-    answered (λ (s : Stepped). Step-says (opened-for (a .bytes .now)) (a .from) (a .goal) s) (omega arith)
+    answered (λ (s : FrameStep). Frame-step-says (opened-for (a .bytes .now)) (a .from) (a .goal) s) (omega arith)
     (c .before .before .put-step .ensures) (c .before .before .before .before .open-and-step .ensures)
 
 pub test-opened-step-spec : {M : Type 1} → statement M

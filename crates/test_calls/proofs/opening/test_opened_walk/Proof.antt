@@ -1,8 +1,8 @@
 -- 1 comes first; else the answer is put as it is. Assumes nothing.
 use mathlib.Core.Path.{refl}
 use native.Mathlib.Omega.{arith}
-use Rattle.forwarder.specs.Calls.{Walk-says}
-use Rattle.forwarder.specs.declared.walk.Walked.{Walked}
+use Rattle.crossing.specs.Crossing.{Frame-walk-says}
+use Rattle.crossing.specs.declared.FrameWalk.{FrameWalk}
 use Rattle.test_calls.specs.Answers.{counts, opened-for}
 use Rattle.test_calls.proofs.Lent.{answered, not-lent}
 use borrow.Author.Needs.{needs}
@@ -28,7 +28,7 @@ returns-2 : tie.Need-returns-2
 returns-2 c =
     let a = c .before .before .before .before .before .before .before .before .before .before .before .before .args in
     let walked = c .before .before .before .before .before .before .open-and-walk in
-    answered (λ (w : Walked). Walk-says (opened-for (a .bytes .now)) (a .from) (a .goal)
+    answered (λ (w : FrameWalk). Frame-walk-says (opened-for (a .bytes .now)) (a .from) (a .goal)
     (counts (a .frames) (a .hops)) w (a .met .now) (walked .last .1 .1 .1 .1 .0)) (omega arith)
     (c .before .before .put-walk .ensures) (walked .ensures)
 
