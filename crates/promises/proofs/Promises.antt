@@ -9,10 +9,13 @@ use Rattle.reader.specs.Promises.{Address-whole, Refused-address-empty, No-such
 use Rattle.reader.proofs.Promises as reader
 use Rattle.forwarder.specs.Promises.{Step-first, Step-local, Step-call-local, Walk-ends, Frame-arrives, Walk-arrives, Walk-full, Stuck-uncounted}
 use Rattle.forwarder.proofs.Promises as forwarder
+use Rattle.crossing.specs.Promises.{Lowest-differing, Step-crosses, Walk-crosses, Link-crosses, Plan-link-crosses}
+use Rattle.crossing.specs.Promises.{Answers-cross, Step-names-column, Walk-names-column, Step-column-local, Frame-step-local}
+use Rattle.crossing.proofs.Promises as crossing
 use Rattle.conference.specs.Promises.{Between-means, Conference-promise, Conference-refused, Conference-repeated, Conference-order}
 use Rattle.conference.proofs.Promises as conference
 use Rattle.opened.specs.Promises.{Carries-exactly, Opening-whole, Refused-opening-empty, Refused-opening, Other-sizes, Opened-frame-arrives}
-use Rattle.opened.specs.Promises.{Opened-conference-own, Opened-address-own, Opened-address-refused}
+use Rattle.opened.specs.Promises.{Opened-step-own, Opened-walk-own, Opened-conference-own, Opened-address-own, Opened-address-refused}
 use Rattle.opened.proofs.Promises as opened
 use Rattle.text.specs.Promises.{Decimal-value, Decimal-first, Decimal-digits}
 use Rattle.text.proofs.Promises as text
@@ -150,6 +153,41 @@ walk-full = forwarder.walk-full
 pub stuck-uncounted : Stuck-uncounted
 stuck-uncounted = forwarder.stuck-uncounted
 
+-- the lowest column in which two addresses differ, or none where they are equal
+pub lowest-differing : Lowest-differing
+lowest-differing = crossing.lowest-differing
+
+-- on every plan a step crosses a column exactly if it is over a link, and a walk exactly if it has hops
+pub step-crosses : Step-crosses
+step-crosses = crossing.step-crosses
+
+pub walk-crosses : Walk-crosses
+walk-crosses = crossing.walk-crosses
+
+-- a link crosses its own column, in an accepted rack and on a plan that was read
+pub link-crosses : Link-crosses
+link-crosses = crossing.link-crosses
+
+pub plan-link-crosses : Plan-link-crosses
+plan-link-crosses = crossing.plan-link-crosses
+
+-- so the calls' answers have a column, or none with any refusal, and on a plan that was read it is that of the link crossed first
+pub answers-cross : Answers-cross
+answers-cross = crossing.answers-cross
+
+pub step-names-column : Step-names-column
+step-names-column = crossing.step-names-column
+
+pub walk-names-column : Walk-names-column
+walk-names-column = crossing.walk-names-column
+
+-- the column of a step depends on nothing but what the step does, and so does the call's answer with it
+pub step-column-local : Step-column-local
+step-column-local = crossing.step-column-local
+
+pub frame-step-local : Frame-step-local
+frame-step-local = crossing.frame-step-local
+
 -- hops that add up mean a shortest path through a card
 pub between-means : Between-means
 between-means = conference.between-means
@@ -192,6 +230,13 @@ other-sizes = opened.other-sizes
 -- every frame on an opened plan that was read arrives by the fewest links
 pub opened-frame-arrives : Opened-frame-arrives
 opened-frame-arrives = opened.opened-frame-arrives
+
+-- a step and a walk on an opened plan answer as on its bytes, with their columns
+pub opened-step-own : Opened-step-own
+opened-step-own = opened.opened-step-own
+
+pub opened-walk-own : Opened-walk-own
+opened-walk-own = opened.opened-walk-own
 
 -- three cards of an opened plan that was read get the answer of its bytes
 pub opened-conference-own : Opened-conference-own

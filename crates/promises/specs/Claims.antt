@@ -9,11 +9,13 @@ use Rattle.rack.specs.Lists.{all, filter, tabulate, same}
 use Rattle.rack.specs.Wiring.{Link, wiring}
 use Rattle.rack.specs.WiringFile.{file-bytes, file-wiring, file-refusal}
 use Rattle.rack.specs.Columns.{column-count, address}
-use Rattle.rack.specs.PlanFile.{plan-cards, plan-wiring}
+use Rattle.rack.specs.PlanFile.{plan-cards, plan-columns, plan-wiring, plan-hamming}
 use Rattle.planner.specs.PlanBytes.{plan-bytes}
 use Rattle.reader.specs.Plan.{plan-refusal}
 use Rattle.forwarder.specs.Forwarding.{step, walk}
 use Rattle.forwarder.specs.Calls.{lent-met, walk-hops, walk-refusal}
+use Rattle.crossing.specs.Differing.{plan-differing}
+use Rattle.crossing.specs.Crossing.{step-column, walk-column}
 use Rattle.conference.specs.Conference.{conference, conference-refusal}
 use Rattle.text.specs.Codes.{codes}
 use Rattle.listing_text.specs.Listing.{column-digit, listing}
@@ -50,6 +52,12 @@ pub data Claim : Type 0 where
   stuck : (a b : ℕ) → Claim
   -- with these counts before it, the walk from a to b gives this number
   walk-answers : (a b : ℕ) → (frames hops : ℕ) → (number : ℕ) → Claim
+  -- on the plan, two addresses differ in so many places, this column the lowest; in none
+  differ-in : (a b places column : ℕ) → Claim
+  differ-nowhere : (a b : ℕ) → Claim
+  -- on the plan, a step from a to b crosses this column, and it is the first that a walk crosses; they cross none
+  crosses : (a b column : ℕ) → Claim
+  crosses-none : (a b : ℕ) → Claim
   -- on the plan, three cards confer at this card; at none; they are answered with this number
   confers : (a b c : ℕ) → (card : ℕ) → Claim
   confers-nowhere : (a b c : ℕ) → Claim
@@ -70,6 +78,10 @@ claim-holds bs ps (walks a b hops met) =
     eqb (v .arrived) 1 && eqb (walk-hops v) hops && same eqb (v .met) met
 claim-holds bs ps (stuck a b) = eqb (step ps a b .outcome) 0
 claim-holds bs ps (walk-answers a b f h n) = eqb (walk-refusal ps a b (record { frames = f; hops = h }) lent-met) n
+claim-holds bs ps (differ-in a b n j) = eqb (plan-hamming ps a b) n && ltb j (plan-columns ps) && eqb (plan-differing ps a b) j
+claim-holds bs ps (differ-nowhere a b) = eqb (plan-hamming ps a b) 0 && eqb (plan-differing ps a b) (plan-columns ps)
+claim-holds bs ps (crosses a b j) = ltb j (plan-columns ps) && eqb (step-column ps a b) j && eqb (walk-column ps a b) j
+claim-holds bs ps (crosses-none a b) = eqb (step-column ps a b) (plan-columns ps) && eqb (walk-column ps a b) (plan-columns ps)
 claim-holds bs ps (confers a b c x) =
     eqb (conference-refusal ps a b c) 0 && ltb x (plan-cards ps) && eqb (conference (plan-wiring ps) a b c) x
 claim-holds bs ps (confers-nowhere a b c) = eqb (conference-refusal ps a b c) 0 && eqb (conference (plan-wiring ps) a b c) (plan-cards ps)
