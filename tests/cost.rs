@@ -1,8 +1,9 @@
-//! Counts the instructions of the C calls and of conferences, on what the benchmark times. `cost` makes the calls, for callgrind to count.
+//! Counts the instructions of the C calls, of steps and walks with their columns, and of conferences, on what the benchmark times. `cost` makes the calls, for callgrind to count.
 //! `cost FOLDER LIMITS` reads what was counted and holds it to a table of limits; with `--set` it writes the table.
 
 mod calls;
 mod conference;
+mod crossing;
 #[allow(dead_code)]
 #[path = "../bench/measured.rs"]
 mod measured;
@@ -22,12 +23,22 @@ enum Kind {
     Reading,
     Step,
     Walk,
+    StepFrame,
+    WalkFrame,
     Conference,
     Refused,
 }
 
-const COLUMNS: usize = 5;
-const KINDS: [&str; COLUMNS] = ["planning", "reading", "step", "walk", "conference"];
+const COLUMNS: usize = 7;
+const KINDS: [&str; COLUMNS] = [
+    "planning",
+    "reading",
+    "step",
+    "walk",
+    "step_frame",
+    "walk_frame",
+    "conference",
+];
 
 impl Kind {
     fn call(self) -> &'static str {
@@ -35,6 +46,8 @@ impl Kind {
             Kind::Planning => "jolvente_write_plan",
             Kind::Reading => "jolvente_read_plan",
             Kind::Step | Kind::Walk => "jolvente_walk",
+            Kind::StepFrame => "test_step_frame",
+            Kind::WalkFrame => "test_walk_frame",
             Kind::Conference | Kind::Refused => "test_conference_card",
         }
     }
@@ -79,13 +92,20 @@ fn make_calls() -> Made {
             continue;
         };
         read(measured.name, &plan, 0, &mut made);
-        walk(Kind::Step, &measured.worst_steps(&plan), &mut made);
-        walk(Kind::Walk, &measured.longest_walks(&plan), &mut made);
+        let (steps, walks) = (measured.worst_steps(&plan), measured.longest_walks(&plan));
+        walk(Kind::Step, &steps, &mut made);
+        walk(Kind::Walk, &walks, &mut made);
+        step_frame(&steps, &mut made);
+        walk_frame(&walks, &mut made);
         confer(&measured, &plan, &mut made);
     }
-    walk(Kind::Step, &[measured::stuck_at_hub()], &mut made);
-    walk(Kind::Step, &measured::tangles_in_turn(), &mut made);
-    walk(Kind::Walk, &[measured::chain_behind_others()], &mut made);
+    for steps in [vec![measured::stuck_at_hub()], measured::tangles_in_turn()] {
+        walk(Kind::Step, &steps, &mut made);
+        step_frame(&steps, &mut made);
+    }
+    let walks = [measured::chain_behind_others()];
+    walk(Kind::Walk, &walks, &mut made);
+    walk_frame(&walks, &mut made);
     made
 }
 
@@ -104,6 +124,28 @@ fn walk(kind: Kind, frames: &[Frame], made: &mut Made) {
         let number = |at: usize| u32::from_le_bytes([0, 1, 2, 3].map(|byte| record[at + byte]));
         let answer = [number(0), number(4)];
         assert_eq!((code, answer), (0, frame.answer), "walk: {}", frame.name);
+    }
+}
+
+/// A frame that has hops crosses a column.
+fn step_frame(frames: &[Frame], made: &mut Made) {
+    for frame in frames {
+        let (number, answer) = crossing::step_frame(&frame.plan, frame.ends.0, frame.ends.1);
+        made.push((frame.name, Kind::StepFrame));
+        let crosses = u32::from(frame.answer[1] > 0);
+        let given = (number, answer[0] / 2, answer[3]);
+        assert_eq!(given, (0, crosses, crosses), "step: {}", frame.name);
+    }
+}
+
+fn walk_frame(frames: &[Frame], made: &mut Made) {
+    for frame in frames {
+        let (number, answer) = crossing::walk_frame(&frame.plan, frame.ends.0, frame.ends.1);
+        made.push((frame.name, Kind::WalkFrame));
+        let [arrived, hops] = frame.answer;
+        let given = (number, [answer[0], answer[1], answer[4]]);
+        let expected = (0, [arrived, hops, u32::from(hops > 0)]);
+        assert_eq!(given, expected, "walk: {}", frame.name);
     }
 }
 
