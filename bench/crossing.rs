@@ -50,7 +50,7 @@ fn main() {
 fn print_row(name: &str, plan: &[u8], steps: Option<[f64; 2]>, walks: Option<[f64; 2]>) {
     let cells = |times: Option<[f64; 2]>| match times {
         Some([c, frame]) => format!("{c:.2} | {frame:.2}"),
-        None => "| ".to_string(),
+        None => "|".to_string(),
     };
     println!(
         "| {name} | {} | {} | {} |",
