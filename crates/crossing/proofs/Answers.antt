@@ -1,6 +1,6 @@
 -- What the calls answer, from what their parts do: a column or none. Assumes nothing.
 use mathlib.Core.Path.{_≡_, refl, sym, ap, _∙_, subst}
-use mathlib.Core.Bool.{Bool, true, false, _&&_, not}
+use mathlib.Core.Bool.{true, false, _&&_, not}
 use mathlib.Core.Logic.{_≢_}
 use mathlib.Core.List.{List}
 use Prim.Native.Nat.{ℕ, _≤_, _<_}
@@ -23,23 +23,26 @@ use Rattle.forwarder.specs.declared.walk.Walked.{Walked}
 use Rattle.forwarder.proofs.Frames.{answered-cards}
 use Rattle.forwarder.proofs.Stepping.{step-two}
 use Rattle.crossing.specs.Differing.{plan-differing}
-use Rattle.crossing.specs.Crossing.{step-column, walk-column, Column-or-none, Differing-column, Frame-step-says, Frame-walk-says}
+use Rattle.crossing.specs.Crossing.{step-column, walk-column, Column-or-none, no-column, Differing-column, Frame-step-says, Frame-walk-says}
 use Rattle.crossing.specs.declared.FrameStep.{FrameStep}
 use Rattle.crossing.specs.declared.FrameWalk.{FrameWalk}
 use Rattle.crossing.specs.declared.places.FirstColumn.{FirstColumn}
 use Rattle.crossing.proofs.Differing.{differing-within}
 use Rattle.crossing.proofs.Crossed.{Goes-on, column-over, column-none, walk-first, hops-go-on, no-hops}
 
--- A COLUMN or none, behind a refusal
-none-crossed : (refused j k : ℕ) → (refused ≡ 0 → k ≤ j) → (eqb refused 0 && ltb j k) ≡ false
-none-crossed refused j k h =
-    by-eq refused 0 (λ e. rw (eq-eqb refused 0 e, le-ltb j k (h e)) refl) (λ n. rw (ne-eqb refused 0 n) refl)
+-- A COLUMN or none
+module _ (refused j k : ℕ) (r : FirstColumn) where
+  none-crossed : (refused ≡ 0 → k ≤ j) → (eqb refused 0 && ltb j k) ≡ false
+  none-crossed h = by-eq refused 0 (λ e. rw (eq-eqb refused 0 e, le-ltb j k (h e)) refl) (λ n. rw (ne-eqb refused 0 n) refl)
 
-pub column-absent : (some : Bool) (j : ℕ) (r : FirstColumn) → some ≡ false → Column-or-none false 0 r → Column-or-none some j r
-column-absent some j r e n = rw e (record { found = n .found; column = n .column })
+  column-absent : (refused ≡ 0 → k ≤ j) → r ≡ no-column → Column-or-none refused j k r
+  column-absent h e = let t = none-crossed h in subst (Column-or-none refused j k) (sym e) (record { found = rw t refl; column = rw t refl })
 
-pub column-present : (some : Bool) (j : ℕ) (r : FirstColumn) → some ≡ true → r .found ≡ 1 → r .column ≡ j → Column-or-none some j r
-column-present some j r e found column = rw e (record { found = found; column = column })
+  column-present : refused ≡ 0 → j < k → r .found ≡ 1 → r .column ≡ j → Column-or-none refused j k r
+  column-present e l found column =
+      let t = eq-eqb refused 0 e in
+      let u = lt-ltb j k l in
+      record { found = rw (t, u) found; column = rw (t, u) column }
 
 module _ (ps : List ℕ) (a b : ℕ) where
   pub few-differing : plan-differing ps a b ≤ plan-columns ps
@@ -48,12 +51,12 @@ module _ (ps : List ℕ) (a b : ℕ) where
 
   -- of two addresses: a search that ended at j, of k columns
   module _ (j k : ℕ) (r : FirstColumn) (at : j ≡ plan-differing ps a b) (columns : k ≡ plan-columns ps) where
-    pub equal-addresses : j ≡ k → Column-or-none false 0 r → Differing-column ps a b r
-    equal-addresses e = column-absent _ _ r (le-ltb (plan-differing ps a b) (plan-columns ps) (omega arith))
+    pub equal-addresses : j ≡ k → r ≡ no-column → Differing-column ps a b r
+    equal-addresses e = column-absent 0 (plan-differing ps a b) (plan-columns ps) r (λ _. omega arith)
 
     pub unlike-addresses : j ≢ k → r .found ≡ 1 → r .column ≡ j → Differing-column ps a b r
     unlike-addresses n found column =
-        column-present _ _ r (lt-ltb (plan-differing ps a b) (plan-columns ps) (omega (arith, few-differing))) found (column ∙ at)
+        column-present 0 (plan-differing ps a b) (plan-columns ps) r refl (omega (arith, few-differing)) found (column ∙ at)
 
   -- both cards of a frame that is not refused are the plan's, and the plan has its layout
   answered-layout : step-refusal ps a b ≡ 0 → layout-refusal ps ≡ 0
@@ -94,29 +97,22 @@ module _ (ps : List ℕ) (a b : ℕ) where
     pub step-between-cards : (z : Sizes) → Layout-says ps z → r .outcome ≡ 2 → Between z (r .far)
     step-between-cards z says e = let clear = step-clear e in between z (r .far) says clear (step-outcome clear ∙ e) (step-far clear)
 
-  pub step-crosses-none : (r : FrameStep) → Step-says ps a b (r .stepped) → r .stepped .outcome ≢ 2 → Column-or-none false 0 (r .crossed)
+  pub step-crosses-none : (r : FrameStep) → Step-says ps a b (r .stepped) → r .stepped .outcome ≢ 2 → r .crossed ≡ no-column
       → Frame-step-says ps a b r
   step-crosses-none r s n none =
       record {
         stepped = s;
         crossed =
-            column-absent _ _ (r .crossed)
-            (none-crossed (step-refusal ps a b) (step-column ps a b) (plan-columns ps)
-            (λ e. omega (arith, column-none ps a b (λ o. n (sym (step-outcome (r .stepped) s e) ∙ o)))))
-            none;
+            column-absent (step-refusal ps a b) (step-column ps a b) (plan-columns ps) (r .crossed)
+            (λ e. omega (arith, column-none ps a b (λ o. n (sym (step-outcome (r .stepped) s e) ∙ o)))) none;
       }
 
   pub step-crosses-column : (r : FrameStep) → Step-says ps a b (r .stepped) → r .stepped .outcome ≡ 2 → Differing-column ps a (r .stepped .far) (r .crossed)
       → Frame-step-says ps a b r
   step-crosses-column r s e d =
       let clear = step-clear (r .stepped) s e in
-      let column : plan-differing ps a (r .stepped .far) ≡ step-column ps a b =
-      ap (plan-differing ps a) (step-far (r .stepped) s clear) ∙ sym (column-over ps a b (step-outcome (r .stepped) s clear ∙ e))
-      in
-      record {
-        stepped = s;
-        crossed = rw (eq-eqb (step-refusal ps a b) 0 clear) (subst (λ (j : ℕ). Column-or-none (ltb j (plan-columns ps)) j (r .crossed)) column d);
-      }
+      let column = column-over ps a b (step-outcome (r .stepped) s clear ∙ e) ∙ ap (plan-differing ps a) (sym (step-far (r .stepped) s clear)) in
+      record { stepped = s; crossed = rw (clear, column) d }
 
   -- A WALK without hops crosses none, and else what lies between the first two of the cards met
   module _ (t : Traffic) (old new : List ℕ) where
@@ -149,27 +145,19 @@ module _ (ps : List ℕ) (a b : ℕ) where
       pub walk-between-cards : (z : Sizes) → Layout-says ps z → r .hops ≢ 0 → Between z (getD new 1 0)
       walk-between-cards z says n = between z (getD new 1 0) says (walk-steps (walk-clear n)) (walk-goes-on n .over) (second-met n .1)
 
-    pub walk-crosses-none : (r : FrameWalk) → Walk-says ps a b t (r .walked) old new → r .walked .hops ≡ 0 → Column-or-none false 0 (r .crossed)
+    pub walk-crosses-none : (r : FrameWalk) → Walk-says ps a b t (r .walked) old new → r .walked .hops ≡ 0 → r .crossed ≡ no-column
         → Frame-walk-says ps a b t r old new
     walk-crosses-none r s h none =
         record {
           walked = s;
           crossed =
-              column-absent _ _ (r .crossed)
-              (none-crossed (walk-refusal ps a b t (length old)) (walk-column ps a b) (plan-columns ps)
-              (λ e. no-hops ps a b (sym (walk-hops-said (r .walked) s e) ∙ h)))
-              none;
+              column-absent (walk-refusal ps a b t (length old)) (walk-column ps a b) (plan-columns ps) (r .crossed)
+              (λ e. no-hops ps a b (sym (walk-hops-said (r .walked) s e) ∙ h)) none;
         }
 
     pub walk-crosses-column : (r : FrameWalk) → Walk-says ps a b t (r .walked) old new → r .walked .hops ≢ 0
         → Differing-column ps a (getD new 1 0) (r .crossed) → Frame-walk-says ps a b t r old new
     walk-crosses-column r s n d =
-        let column : plan-differing ps a (getD new 1 0) ≡ walk-column ps a b =
-        ap (plan-differing ps a) (second-met (r .walked) s n .1) ∙ sym (column-over ps a b (walk-goes-on (r .walked) s n .over)) ∙ sym (walk-first ps a b)
-        in
-        record {
-          walked = s;
-          crossed =
-              rw (eq-eqb (walk-refusal ps a b t (length old)) 0 (walk-clear (r .walked) s n))
-              (subst (λ (j : ℕ). Column-or-none (ltb j (plan-columns ps)) j (r .crossed)) column d);
-        }
+        let first = walk-first ps a b ∙ column-over ps a b (walk-goes-on (r .walked) s n .over) in
+        let column = first ∙ ap (plan-differing ps a) (sym (second-met (r .walked) s n .1)) in
+        record { walked = s; crossed = rw (walk-clear (r .walked) s n, column) d }

@@ -29,7 +29,7 @@ use Rattle.crossing.proofs.Answers.{step-clear, step-outcome, step-link
 use Rattle.crossing.proofs.LinkColumns.{plan-link-crosses}
 
 -- A COLUMN behind a refusal: it is found exactly if nothing is refused and there is one
-module _ (refused j k : ℕ) (r : FirstColumn) (h : Column-or-none (eqb refused 0 && ltb j k) j r) where
+module _ (refused j k : ℕ) (r : FirstColumn) (h : Column-or-none refused j k r) where
   found-some : r .found ≡ 1 → (refused ≡ 0) × (j < k)
   found-some e =
       let t = one-true (eqb refused 0 && ltb j k) (sym (h .found) ∙ e) in
@@ -40,7 +40,10 @@ module _ (refused j k : ℕ) (r : FirstColumn) (h : Column-or-none (eqb refused 
       one-true false e = absurd (omega arith)
 
   some-found : refused ≡ 0 → j < k → (r .found ≡ 1) × (r .column ≡ j)
-  some-found e l = let g = rw (eq-eqb refused 0 e, lt-ltb j k l) at h in (g .found, g .column)
+  some-found e l =
+      let t = eq-eqb refused 0 e in
+      let u = lt-ltb j k l in
+      (rw (t, u) at (h .found), rw (t, u) at (h .column))
 
 -- A STEP
 module _ (ps : List ℕ) (a b : ℕ) (r : FrameStep) (s : Frame-step-says ps a b r) where

@@ -1,9 +1,7 @@
 -- The column that a step crosses depends on nothing but what the step does. Assumes nothing.
 use mathlib.Core.Path.{_≡_, sym, ap, _∙_}
-use mathlib.Core.Bool.{false, _&&_}
 use mathlib.Core.List.{List}
 use Prim.Native.Nat.{ℕ}
-use lib.Dec.{ltb, eqb}
 use borrow.Author.Tests.{ne-eqb}
 use Rattle.rack.proofs.Logic.{by-eq}
 use Rattle.rack.proofs.Paths.{other-end-below}
@@ -60,15 +58,15 @@ module _ (r s : FrameStep) (stepped : r .stepped ≡ s .stepped) (found : r .cro
 
 -- two answers that pass on the same column, or none
 same-columns : (refused j k refused′ j′ k′ : ℕ) (r s : FirstColumn) → refused ≡ refused′ → k ≡ k′ → (refused ≡ 0 → j ≡ j′)
-    → Column-or-none (eqb refused 0 && ltb j k) j r → Column-or-none (eqb refused′ 0 && ltb j′ k′) j′ s
+    → Column-or-none refused j k r → Column-or-none refused′ j′ k′ s
     → (r .found ≡ s .found) × (r .column ≡ s .column)
 same-columns refused j k refused′ j′ k′ r s e f g hr hs =
     by-eq refused 0
-    (λ z. let there : Column-or-none (eqb refused 0 && ltb j k) j s = rw (e, f, g z) hs in
+    (λ z. let there : Column-or-none refused j k s = rw (e, f, g z) hs in
     (hr .found ∙ sym (there .found), hr .column ∙ sym (there .column)))
-    (λ n. let none : Column-or-none false j r = rw (ne-eqb refused 0 n) at hr in
-    let none′ : Column-or-none false j′ s = rw (ne-eqb refused′ 0 (λ z. n (e ∙ z))) at hs in
-    (none .found ∙ sym (none′ .found), none .column ∙ sym (none′ .column)))
+    (λ n. let none = ne-eqb refused 0 n in
+    let none′ = ne-eqb refused′ 0 (λ z. n (e ∙ z)) in
+    ((rw none at (hr .found)) ∙ sym (rw none′ at (hs .found)), (rw none at (hr .column)) ∙ sym (rw none′ at (hs .column))))
 
 -- THE CALL
 pub frame-step-local : Frame-step-local

@@ -1,7 +1,7 @@
 -- The column that a step crosses and the first that a walk crosses, and what the calls answer. Assumes nothing: these are definitions.
 -- Quotations: docs/REQUIREMENTS.md.
 use mathlib.Core.Path.{_≡_}
-use mathlib.Core.Bool.{Bool, _&&_, cond}
+use mathlib.Core.Bool.{_&&_, cond}
 use mathlib.Core.List.{List, [], _∷_}
 use Prim.Native.Nat.{ℕ}
 use lib.Dec.{ltb, eqb}
@@ -33,14 +33,17 @@ unfoldable pub walk-column : List ℕ → (a b : ℕ) → ℕ
 walk-column ps a b = first-crossed ps (walk ps a b .met)
 
 -- ANSWERS
--- 1 and the column where there is one, else 0 and 0
-pub record Column-or-none (some : Bool) (j : ℕ) (r : FirstColumn) : Type 0 where
-  pub found : r .found ≡ one some
-  pub column : r .column ≡ cond some j 0
+-- 1 and column j, where nothing is refused and it is one of the k; else none, 0 and 0
+pub record Column-or-none (refused j k : ℕ) (r : FirstColumn) : Type 0 where
+  pub found : r .found ≡ one (eqb refused 0 && ltb j k)
+  pub column : r .column ≡ cond (eqb refused 0 && ltb j k) j 0
+
+abbrev pub no-column : FirstColumn
+no-column = record { found = 0; column = 0 }
 
 -- of two addresses: "the lowest column that differs, or none where they are equal"
 abbrev pub Differing-column : List ℕ → (a b : ℕ) → FirstColumn → Type 0
-Differing-column ps a b r = Column-or-none (ltb (plan-differing ps a b) (plan-columns ps)) (plan-differing ps a b) r
+Differing-column ps a b r = Column-or-none 0 (plan-differing ps a b) (plan-columns ps) r
 
 -- the differing places counted, and that column
 pub record Places-are (ps : List ℕ) (a b : ℕ) (r : Places) : Type 0 where
@@ -50,9 +53,9 @@ pub record Places-are (ps : List ℕ) (a b : ℕ) (r : Places) : Type 0 where
 -- a step's answer, with the column that it crosses; none with a refusal
 pub record Frame-step-says (ps : List ℕ) (a b : ℕ) (r : FrameStep) : Type 0 where
   pub stepped : Step-says ps a b (r .stepped)
-  pub crossed : Column-or-none (eqb (step-refusal ps a b) 0 && ltb (step-column ps a b) (plan-columns ps)) (step-column ps a b) (r .crossed)
+  pub crossed : Column-or-none (step-refusal ps a b) (step-column ps a b) (plan-columns ps) (r .crossed)
 
 -- a walk's answer and what it leaves, with the first column that it crosses; none with a refusal
 pub record Frame-walk-says (ps : List ℕ) (a b : ℕ) (t : Traffic) (r : FrameWalk) (old new : List ℕ) : Type 0 where
   pub walked : Walk-says ps a b t (r .walked) old new
-  pub crossed : Column-or-none (eqb (walk-refusal ps a b t (length old)) 0 && ltb (walk-column ps a b) (plan-columns ps)) (walk-column ps a b) (r .crossed)
+  pub crossed : Column-or-none (walk-refusal ps a b t (length old)) (walk-column ps a b) (plan-columns ps) (r .crossed)

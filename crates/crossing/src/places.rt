@@ -1,6 +1,6 @@
 // Differing places of two addresses in a plan's own bytes, with the lowest column that differs.
 ghost use mathlib.Core.Path.{_≡_};
-ghost use mathlib.Core.Bool.{not, false};
+ghost use mathlib.Core.Bool.{not};
 ghost use Prim.Native.Nat.{_+_, _*_, _<_, _≤_};
 ghost use lib.Dec.{eqb};
 ghost use lib.ListN.{getD, length};
@@ -11,7 +11,7 @@ ghost use Rattle.rack.specs.Ones.{Counts};
 ghost use Rattle.rack.specs.PlanFile.{address-size, addresses-start};
 ghost use Rattle.reader.specs.Reading.{Laid-out, bit-from};
 ghost use Rattle.crossing.specs.Differing.{lowest-differing};
-ghost use Rattle.crossing.specs.Crossing.{Column-or-none, Differing-column, Places-are};
+ghost use Rattle.crossing.specs.Crossing.{Differing-column, Places-are, no-column};
 use rack::plan_file::address_size;
 use rack::plan_file::address_start;
 use reader::layout::Sizes;
@@ -69,7 +69,7 @@ fn first_bit(plan: &[u8], first: usize, second: usize, k: usize) -> usize
 
 // No column.
 pub fn no_column() -> FirstColumn
-    ensures { λ r. ⌜ Column-or-none false 0 r ⌝ }
+    ensures { λ r. ⌜ r ≡ no-column ⌝ }
 {
     FirstColumn {
         found: 0,
