@@ -37,12 +37,8 @@ fn main() {
             print_row(measured.name, &plan, Some(steps), Some(walks));
         }
     }
-    for frame in [
-        measured::stuck_at_hub(),
-        measured::tangles_in_turn().remove(0),
-    ] {
-        print_row(frame.name, &frame.plan, Some(times(&frame, step)), None);
-    }
+    let frame = measured::stuck_at_hub();
+    print_row(frame.name, &frame.plan, Some(times(&frame, step)), None);
     let frame = measured::chain_behind_others();
     print_row(frame.name, &frame.plan, None, Some(times(&frame, walk)));
 }

@@ -1,4 +1,5 @@
-//! Counts the instructions of the C calls, of steps and walks with their columns, and of conferences, on what the benchmark times. `cost` makes the calls, for callgrind to count.
+//! Counts the instructions of the C calls, of steps and walks with their columns, and of conferences, on what the benchmark times.
+//! `cost` makes the calls, for callgrind to count.
 //! `cost FOLDER LIMITS` reads what was counted and holds it to a table of limits; with `--set` it writes the table.
 
 mod calls;
@@ -133,7 +134,7 @@ fn step_frame(frames: &[Frame], made: &mut Made) {
         let (number, answer) = crossing::step_frame(&frame.plan, frame.ends.0, frame.ends.1);
         made.push((frame.name, Kind::StepFrame));
         let crosses = u32::from(frame.answer[1] > 0);
-        let given = (number, answer[0] / 2, answer[3]);
+        let given = (number, u32::from(answer[0] == 2), answer[3]);
         assert_eq!(given, (0, crosses, crosses), "step: {}", frame.name);
     }
 }

@@ -85,7 +85,8 @@ fn report(both: &Both, rounds: u64) {
     );
 }
 
-/// Every number that a call can be answered with was met and no other, and every end of steps, walks and conferences.
+/// Every number that a call can be answered with was met and no other, every end of steps, walks and conferences, and each kind of
+/// `Columns`.
 fn check_reach(both: &Both) {
     for name in NAMES {
         for (number, &count) in both.seen[name as usize].iter().enumerate() {

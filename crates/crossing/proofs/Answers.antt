@@ -9,10 +9,9 @@ use lib.Dec.{ltb, eqb}
 use lib.ListN.{length, getD}
 use borrow.Author.Tests.{eq-eqb, ne-eqb, lt-ltb, le-ltb}
 use Rattle.rack.proofs.Logic.{by-eq}
-use Rattle.rack.proofs.Paths.{other-end-below}
 use Rattle.rack.proofs.Refusals.{cond-zero}
-use Rattle.rack.specs.PlanFile.{plan-cards, plan-columns, plan-bit}
-use Rattle.reader.specs.Reading.{layout-refusal, Layout-says, Laid-out}
+use Rattle.rack.specs.PlanFile.{plan-columns, plan-bit}
+use Rattle.reader.specs.Reading.{Layout-says, Laid-out}
 use Rattle.reader.specs.declared.layout.Sizes.{Sizes}
 use Rattle.reader.proofs.Reading.{says-laid-out}
 use Rattle.forwarder.specs.Forwarding.{step, walk}
@@ -20,8 +19,8 @@ use Rattle.forwarder.specs.Calls.{lent-met, walk-hops, step-refusal, walk-refus
 use Rattle.forwarder.specs.declared.step.Stepped.{Stepped}
 use Rattle.forwarder.specs.declared.walk.Traffic.{Traffic}
 use Rattle.forwarder.specs.declared.walk.Walked.{Walked}
-use Rattle.forwarder.proofs.Frames.{answered-cards}
-use Rattle.forwarder.proofs.Stepping.{step-two}
+use Rattle.forwarder.proofs.Frames.{answered-layout, answered-cards}
+use Rattle.forwarder.proofs.Stepping.{step-far-below}
 use Rattle.crossing.specs.Differing.{plan-differing}
 use Rattle.crossing.specs.Crossing.{step-column, walk-column, Column-or-none, no-column, Differing-column, Frame-step-says, Frame-walk-says}
 use Rattle.crossing.specs.declared.FrameStep.{FrameStep}
@@ -58,11 +57,6 @@ module _ (ps : List ℕ) (a b : ℕ) where
     unlike-addresses n found column =
         column-present 0 (plan-differing ps a b) (plan-columns ps) r refl (omega (arith, few-differing)) found (column ∙ at)
 
-  -- both cards of a frame that is not refused are the plan's, and the plan has its layout
-  answered-layout : step-refusal ps a b ≡ 0 → layout-refusal ps ≡ 0
-  unfolding step-refusal
-  answered-layout e = by-eq (layout-refusal ps) 0 (λ l. l) (λ n. rw (ne-eqb (layout-refusal ps) 0 n) at e)
-
   -- THE CARDS between which a column is crossed
   pub record Between (s : Sizes) (c : ℕ) : Type 0 where
     pub sizes : Laid-out ps s
@@ -71,13 +65,11 @@ module _ (ps : List ℕ) (a b : ℕ) where
 
   between : (s : Sizes) (c : ℕ) → Layout-says ps s → step-refusal ps a b ≡ 0 → step ps a b .outcome ≡ 2 → c ≡ step ps a b .far → Between s c
   between s c says e over far =
-      let z = says-laid-out ps s says (says .number ∙ answered-layout e) in
-      let o = step-two ps a b over in
-      let below = other-end-below (plan-cards ps) a _ (o .nearer .first) (o .nearer .second) in
+      let z = says-laid-out ps s says (says .number ∙ answered-layout ps a b e) in
       record {
         sizes = z;
         from = omega (arith, z .cards, answered-cards ps a b e .0);
-        far = omega (arith, z .cards, far, o .far, below);
+        far = omega (arith, z .cards, far, step-far-below ps a b over);
       }
 
   -- A STEP that is not over a link crosses none, and else what lies between its card and the far card
@@ -132,18 +124,18 @@ module _ (ps : List ℕ) (a b : ℕ) where
           let room = cond-zero (not (eqb (length old) lent-met)) 1 _ (λ z. omega arith) e in
           by-eq (step-refusal ps a b) 0 (λ z. z) (λ n. rw (ne-eqb (step-refusal ps a b) 0 n) at (room .1))
 
-      pub walk-goes-on : r .hops ≢ 0 → Goes-on ps a b (walk ps a b)
-      walk-goes-on n = hops-go-on ps a b (omega (arith, walk-hops-said (walk-clear n)))
+      pub answered-goes-on : r .hops ≢ 0 → Goes-on ps a b (walk ps a b)
+      answered-goes-on n = hops-go-on ps a b (omega (arith, walk-hops-said (walk-clear n)))
 
       -- the second card met
       pub second-met : r .hops ≢ 0 → (2 ≤ length new) × (getD new 1 0 ≡ step ps a b .far)
       second-met n =
-          let g = walk-goes-on n in
+          let g = answered-goes-on n in
           let met = rw (walk-answered (walk-clear n), g .met) at (s .met) in
           (rw met (omega arith), rw met refl)
 
       pub walk-between-cards : (z : Sizes) → Layout-says ps z → r .hops ≢ 0 → Between z (getD new 1 0)
-      walk-between-cards z says n = between z (getD new 1 0) says (walk-steps (walk-clear n)) (walk-goes-on n .over) (second-met n .1)
+      walk-between-cards z says n = between z (getD new 1 0) says (walk-steps (walk-clear n)) (answered-goes-on n .over) (second-met n .1)
 
     pub walk-crosses-none : (r : FrameWalk) → Walk-says ps a b t (r .walked) old new → r .walked .hops ≡ 0 → r .crossed ≡ no-column
         → Frame-walk-says ps a b t r old new
@@ -158,6 +150,6 @@ module _ (ps : List ℕ) (a b : ℕ) where
     pub walk-crosses-column : (r : FrameWalk) → Walk-says ps a b t (r .walked) old new → r .walked .hops ≢ 0
         → Differing-column ps a (getD new 1 0) (r .crossed) → Frame-walk-says ps a b t r old new
     walk-crosses-column r s n d =
-        let first = walk-first ps a b ∙ column-over ps a b (walk-goes-on (r .walked) s n .over) in
+        let first = walk-first ps a b ∙ column-over ps a b (answered-goes-on (r .walked) s n .over) in
         let column = first ∙ ap (plan-differing ps a) (sym (second-met (r .walked) s n .1)) in
         record { walked = s; crossed = rw (walk-clear (r .walked) s n, column) d }

@@ -14,7 +14,7 @@ use Rattle.forwarder.specs.Promises.{Steps-along}
 use Rattle.forwarder.proofs.Stepping.{step-less}
 use Rattle.forwarder.proofs.Walking.{walk-all-runs}
 use Rattle.crossing.specs.Differing.{plan-differing}
-use Rattle.crossing.specs.Crossing.{step-column, first-crossed, walk-column}
+use Rattle.crossing.specs.Crossing.{step-column, walk-column}
 use Rattle.crossing.specs.Promises.{Step-crosses, Walk-crosses}
 use Rattle.crossing.proofs.Differing.{agree-below}
 
@@ -51,7 +51,7 @@ module _ (ps : List ℕ) (a b : ℕ) where
     pub later : List ℕ
     pub taken : v .taken ≡ step ps a b .link ∷ later
 
-  pub record Stays (v : Walk) : Type 0 where
+  record Stays (v : Walk) : Type 0 where
     pub ended : step ps a b .outcome ≢ 2
     pub met : v .met ≡ a ∷ []
 
@@ -68,26 +68,31 @@ module _ (ps : List ℕ) (a b : ℕ) where
         taken = taken ∙ ap (λ (j : ℕ). j ∷ is) (sym (along .1));
       })
 
-  pub goes-on-or-stays : Goes-on (walk ps a b) ⊎ Stays (walk ps a b)
+  goes-on-or-stays : Goes-on (walk ps a b) ⊎ Stays (walk ps a b)
   goes-on-or-stays = let r = walk-all-runs ps a b in first-step (walk ps a b) (r .0) (walk ps a b .taken) (r .1) refl (r .2)
 
+  goes-on-hops : Goes-on (walk ps a b) → 1 ≤ walk-hops (walk ps a b)
+  unfolding walk-hops
+  goes-on-hops g = rw (g .met) (omega arith)
+
+  stays-hops : Stays (walk ps a b) → walk-hops (walk ps a b) ≡ 0
+  unfolding walk-hops
+  stays-hops s = rw (s .met) (omega arith)
+
   pub walk-first : walk-column ps a b ≡ step-column ps a b
-  unfolding walk-column first-crossed
+  unfolding walk-column
   walk-first =
       ⊎-elim
-      (λ (g : Goes-on (walk ps a b)). ap (first-crossed ps) (g .met) ∙ sym (column-over (g .over)))
-      (λ (s : Stays (walk ps a b)). ap (first-crossed ps) (s .met) ∙ sym (column-none (s .ended)))
+      (λ (g : Goes-on (walk ps a b)).
+      rw (ne-eqb (walk-hops (walk ps a b)) 0 (λ e. omega (arith, goes-on-hops g)), g .met) (sym (column-over (g .over))))
+      (λ (s : Stays (walk ps a b)). rw (eq-eqb (walk-hops (walk ps a b)) 0 (stays-hops s)) (sym (column-none (s .ended))))
       goes-on-or-stays
 
   pub over-hops : step ps a b .outcome ≡ 2 → 1 ≤ walk-hops (walk ps a b)
-  unfolding walk-hops
-  over-hops e =
-      ⊎-elim (λ (g : Goes-on (walk ps a b)). rw (g .met) (omega arith)) (λ (s : Stays (walk ps a b)). absurd (s .ended e)) goes-on-or-stays
+  over-hops e = ⊎-elim goes-on-hops (λ (s : Stays (walk ps a b)). absurd (s .ended e)) goes-on-or-stays
 
   pub hops-go-on : 1 ≤ walk-hops (walk ps a b) → Goes-on (walk ps a b)
-  unfolding walk-hops
-  hops-go-on h =
-      ⊎-elim (λ (g : Goes-on (walk ps a b)). g) (λ (s : Stays (walk ps a b)). absurd (let k = rw (s .met) at h in omega arith)) goes-on-or-stays
+  hops-go-on h = ⊎-elim (λ (g : Goes-on (walk ps a b)). g) (λ (s : Stays (walk ps a b)). absurd (omega (arith, stays-hops s))) goes-on-or-stays
 
   pub no-hops : walk-hops (walk ps a b) ≡ 0 → plan-columns ps ≤ walk-column ps a b
   no-hops e = omega (arith, walk-first, column-none (λ o. omega (arith, over-hops o)))

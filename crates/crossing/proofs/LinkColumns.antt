@@ -1,17 +1,17 @@
 -- A link's ends differ in the link's own column alone. Assumes nothing.
 use mathlib.Core.Path.{_≡_, sym, ap, _∙_}
-use mathlib.Core.Bool.{Bool, false}
+use mathlib.Core.Bool.{false}
 use mathlib.Core.List.{List, []}
 use Prim.Native.Nat.{ℕ, _<_}
 use native.Mathlib.Omega.{arith}
-use lib.ListN.{length, getD}
-use Rattle.rack.specs.Lists.{tabulate}
+use lib.ListN.{getD}
 use Rattle.rack.specs.Wiring.{Link, Wiring, link, link-at}
 use Rattle.rack.specs.Columns.{column, same-column, columns, column-count, address}
+use Rattle.rack.specs.Embeddings.{column-of}
 use Rattle.rack.proofs.Logic.{not-true-false, differ-false, differ-sym}
 use Rattle.rack.proofs.Lists.{In, in-getD}
-use Rattle.rack.proofs.Tables.{lowest-is, length-tabulate, tabulate-getD, tabulate-ext}
-use Rattle.rack.proofs.Columns.{column-link, address-zero, same-column-eq, same-column-self}
+use Rattle.rack.proofs.Tables.{lowest-is, tabulate-ext}
+use Rattle.rack.proofs.Columns.{column-of-address, address-zero, same-column-eq, same-column-self}
 use Rattle.rack.proofs.Crossing.{Crossing, crossing-only, link-inside, link-crossing, column-crossing}
 use Rattle.rack.proofs.Accepted.{Accepted, wiring-accepted}
 use Rattle.rack.specs.PlanFile.{plan-wiring, plan-bit}
@@ -29,22 +29,12 @@ module _ (w : Wiring) (acc : Accepted w) (l : Link) (i : In l (w .links)) where
   abbrev x : Crossing k (address w) (l .first) (l .second)
   x = link-crossing w k (address w) (acc .embedding) (acc .rack) l i
 
-  long : (c : List Bool) → In c (columns w) → length c ≡ w .cards
-  unfolding column
-  long c m = let r = column-link w c m in rw (← (r .2)) (length-tabulate (w .cards) _)
-
-  -- column j as the table of the cards' bits
-  column-table : (j : ℕ) → j < k → tabulate (w .cards) (λ c. address w c j) ≡ getD (columns w) j []
-  unfolding address column-count
-  column-table j h =
-      let c = getD (columns w) j [] in
-      ap (λ (n : ℕ). tabulate n (λ a. getD c a false)) (sym (long c (in-getD (columns w) j [] h))) ∙ tabulate-getD c false
-
   crossed-column : column w l ≡ getD (columns w) (x .at) []
+  unfolding column-of
   crossed-column =
       column-crossing w k (address w) (acc .embedding) (acc .rack) l i
       ∙ tabulate-ext (w .cards) _ (λ c. address w c (x .at)) (λ c h. rw (address-zero w (x .at)) (differ-sym (address w c (x .at)) false))
-      ∙ column-table (x .at) (x .inside)
+      ∙ column-of-address w (x .at) (x .inside)
 
   only-column : (j : ℕ) → j < k → column w l ≡ getD (columns w) j [] → x .at ≡ j
   unfolding address
@@ -62,7 +52,7 @@ module _ (w : Wiring) (acc : Accepted w) (l : Link) (i : In l (w .links)) where
   ends-agree : (j : ℕ) → j < x .at → address w (l .first) j ≡ address w (l .second) j
   ends-agree j h = differ-false (address w (l .first) j) (address w (l .second) j) (x .others j (omega (arith, x .inside)) (λ e. omega arith))
 
-  pub crosses-own-column : Crosses-own-column w k (λ a b. lowest-differing k (address w a) (address w b)) l
+  crosses-own-column : Crosses-own-column w k (λ a b. lowest-differing k (address w a) (address w b)) l
   crosses-own-column =
       record {
         inside = rw number-crossed (x .inside);

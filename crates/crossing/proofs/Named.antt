@@ -9,23 +9,29 @@ use lib.Dec.{ltb, eqb}
 use lib.ListN.{length}
 use borrow.Author.Tests.{eqb-true, ltb-true, eq-eqb, lt-ltb}
 use Rattle.rack.specs.Lists.{one}
-use Rattle.rack.specs.Wiring.{Link, link-at, other-end}
-use Rattle.rack.proofs.Logic.{and-left, and-right}
-use Rattle.rack.proofs.Paths.{Ends, touches-ends}
-use Rattle.rack.specs.PlanFile.{plan-columns, plan-wiring}
+use Rattle.rack.specs.Wiring.{Link, link, link-at, other-end}
+use Rattle.rack.proofs.Logic.{by-lt, and-left, and-right}
+use Rattle.rack.proofs.Lists.{in-getD}
+use Rattle.rack.proofs.Paths.{Ends, joins-ends, touches-ends, link-linked}
+use Rattle.rack.proofs.Crossing.{hops-one}
+use Rattle.rack.proofs.WiringFile.{wiring-at-cards}
+use Rattle.rack.specs.PlanFile.{plan-columns, plan-wiring, plan-bit, plan-hamming}
 use Rattle.reader.specs.Plan.{plan-refusal}
+use Rattle.reader.proofs.Promises.{read-accepted, read-measured}
 use Rattle.forwarder.specs.Forwarding.{step}
 use Rattle.forwarder.specs.Calls.{step-refusal, walk-refusal}
 use Rattle.forwarder.specs.declared.walk.Traffic.{Traffic}
 use Rattle.forwarder.proofs.Stepping.{step-two}
 use Rattle.crossing.specs.Differing.{plan-differing, column-number}
 use Rattle.crossing.specs.Crossing.{step-column, walk-column, Column-or-none, Frame-step-says, Frame-walk-says}
-use Rattle.crossing.specs.Promises.{Crosses-own-column, Plan-link-crosses, Answers-cross, Step-names-column, Walk-names-column}
+use Rattle.crossing.specs.Promises.{Lowest-differing, Crosses-own-column, Plan-link-crosses, Places-found, Places-name-column}
+use Rattle.crossing.specs.Promises.{Answers-cross, Step-names-column, Walk-names-column}
 use Rattle.crossing.specs.declared.FrameStep.{FrameStep}
 use Rattle.crossing.specs.declared.FrameWalk.{FrameWalk}
 use Rattle.crossing.specs.declared.places.FirstColumn.{FirstColumn}
+use Rattle.crossing.proofs.Differing.{differing-lowest}
 use Rattle.crossing.proofs.Crossed.{column-over, over-crosses, crosses-over, walk-first, over-hops}
-use Rattle.crossing.proofs.Answers.{step-clear, step-outcome, step-link, walk-clear, walk-hops-said, walk-goes-on}
+use Rattle.crossing.proofs.Answers.{few-differing, step-clear, step-outcome, step-link, walk-clear, walk-hops-said, answered-goes-on}
 use Rattle.crossing.proofs.LinkColumns.{plan-link-crosses}
 
 -- A COLUMN behind a refusal: it is found exactly if nothing is refused and there is one
@@ -44,6 +50,18 @@ module _ (refused j k : ℕ) (r : FirstColumn) (h : Column-or-none refused j k r
       let t = eq-eqb refused 0 e in
       let u = lt-ltb j k l in
       (rw (t, u) at (h .found), rw (t, u) at (h .column))
+
+-- THE PLACES
+pub places-found : Places-found
+unfolding Places-found Lowest-differing plan-hamming plan-differing
+places-found ps a b r s =
+    let none = differing-lowest (plan-columns ps) (plan-bit ps a) (plan-bit ps b) .0 in
+    let within = few-differing ps a b in (
+      (λ e. let f = found-some 0 (plan-differing ps a b) (plan-columns ps) (r .first) (s .first) e in
+          by-lt 0 (r .count) (λ h. h) (λ h. absurd (omega (arith, f .1, none .1 (omega (arith, s .count)))))),
+      (λ h. some-found 0 (plan-differing ps a b) (plan-columns ps) (r .first) (s .first) refl
+          (by-lt (plan-differing ps a b) (plan-columns ps) (λ l. l) (λ l. absurd (omega (arith, s .count, none .0 (omega arith))))) .0),
+    )
 
 -- A STEP
 module _ (ps : List ℕ) (a b : ℕ) (r : FrameStep) (s : Frame-step-says ps a b r) where
@@ -73,7 +91,7 @@ module _ (ps : List ℕ) (a b : ℕ) (t : Traffic) (r : FrameWalk) (old new : Li
   hops-found : 1 ≤ r .walked .hops → (r .crossed .found ≡ 1) × (r .crossed .column ≡ walk-column ps a b)
   hops-found h =
       let n : r .walked .hops ≢ 0 = λ e. omega arith in
-      let over = walk-goes-on ps a b t old new (r .walked) (s .walked) n .over in
+      let over = answered-goes-on ps a b t old new (r .walked) (s .walked) n .over in
       some-found refused (walk-column ps a b) (plan-columns ps) (r .crossed) (s .crossed) (walk-clear ps a b t old new (r .walked) (s .walked) n)
       (omega (arith, walk-first ps a b, over-crosses ps a b over))
 
@@ -84,7 +102,26 @@ answers-cross = (
   λ ps a b t r old new s. (found-hops ps a b t r old new s, λ h. hops-found ps a b t r old new s h .0),
 )
 
--- ON A PLAN THAT WAS READ a step crosses the column of its link
+-- ON A PLAN THAT WAS READ a linked pair differs in its link's column alone, and a step crosses it
+ends-differ-there : (ps : List ℕ) (a b : ℕ) (l : Link) → Crosses-own-column (plan-wiring ps) (plan-columns ps) (plan-differing ps) l → Ends a b l
+    → plan-differing ps a b ≡ column-number (plan-wiring ps) l
+ends-differ-there ps a b l own (inl e) = ap₂ (plan-differing ps) (sym (e .0)) (sym (e .1)) ∙ own .there
+ends-differ-there ps a b l own (inr e) = ap₂ (plan-differing ps) (sym (e .1)) (sym (e .0)) ∙ own .back
+
+pub places-name-column : Places-name-column
+unfolding Places-name-column Plan-link-crosses
+places-name-column ps a b i r h l t s =
+    let w = plan-wiring ps in
+    let ends = joins-ends a b (link-at w i) t in
+    let joined = link-linked w a b (link-at w i) (in-getD (w .links) i (link 0 0) l) ends in
+    let rack = read-accepted ps h .rack in
+    let inside = rack .inside a b joined in
+    let hops = read-measured ps h .measured a b (rw (wiring-at-cards 6 ps) at (inside .0)) (rw (wiring-at-cards 6 ps) at (inside .1)) in
+    let own = plan-link-crosses ps i h l in
+    let at = ends-differ-there ps a b (link-at w i) own ends in
+    let f = some-found 0 (plan-differing ps a b) (plan-columns ps) (r .first) (s .first) refl (omega (arith, at, own .inside)) in
+    (s .count ∙ hops ∙ hops-one w rack a b joined, f .0, f .1 ∙ at)
+
 step-column-named : (ps : List ℕ) (a b : ℕ) → plan-refusal ps ≡ 0 → step ps a b .outcome ≡ 2
     → step-column ps a b ≡ column-number (plan-wiring ps) (link-at (plan-wiring ps) (step ps a b .link))
 unfolding Plan-link-crosses
@@ -92,12 +129,7 @@ step-column-named ps a b h e =
     let o = step-two ps a b e in
     let l = link-at (plan-wiring ps) (step ps a b .link) in
     column-over ps a b e ∙ ap (plan-differing ps a) (o .far)
-    ∙ from-either l (plan-link-crosses ps (step ps a b .link) h (o .inside)) (touches-ends a l (o .nearer .of-a))
-  where
-    from-either : (l : Link) → Crosses-own-column (plan-wiring ps) (plan-columns ps) (plan-differing ps) l → Ends a (other-end a l) l
-        → plan-differing ps a (other-end a l) ≡ column-number (plan-wiring ps) l
-    from-either l own (inl e) = ap₂ (plan-differing ps) (sym (e .0)) (sym (e .1)) ∙ own .there
-    from-either l own (inr e) = ap₂ (plan-differing ps) (sym (e .1)) (sym (e .0)) ∙ own .back
+    ∙ ends-differ-there ps a (other-end a l) l (plan-link-crosses ps (step ps a b .link) h (o .inside)) (touches-ends a l (o .nearer .of-a))
 
 pub step-names-column : Step-names-column
 unfolding Step-names-column
@@ -110,5 +142,5 @@ pub walk-names-column : Walk-names-column
 unfolding Walk-names-column
 walk-names-column ps a b t r old new h s many =
     let f = hops-found ps a b t r old new s many in
-    let g = walk-goes-on ps a b t old new (r .walked) (s .walked) (λ e. omega arith) in
+    let g = answered-goes-on ps a b t old new (r .walked) (s .walked) (λ e. omega arith) in
     (step ps a b .link, g .later, g .taken, f .0, f .1 ∙ walk-first ps a b ∙ step-column-named ps a b h (g .over))

@@ -1,6 +1,6 @@
 -- The promises of specs/Promises.antt, proved. Assumes nothing.
 use Rattle.crossing.specs.Promises.{Lowest-differing, Step-crosses, Walk-crosses, Link-crosses, Plan-link-crosses}
-use Rattle.crossing.specs.Promises.{Answers-cross, Step-names-column, Walk-names-column, Step-column-local, Frame-step-local}
+use Rattle.crossing.specs.Promises.{Places-found, Places-name-column, Answers-cross, Step-names-column, Walk-names-column, Step-column-local, Frame-step-local}
 use Rattle.crossing.proofs.Differing
 use Rattle.crossing.proofs.LinkColumns
 use Rattle.crossing.proofs.Crossed
@@ -21,6 +21,12 @@ link-crosses = LinkColumns.link-crosses
 
 pub plan-link-crosses : Plan-link-crosses
 plan-link-crosses = LinkColumns.plan-link-crosses
+
+pub places-found : Places-found
+places-found = Named.places-found
+
+pub places-name-column : Places-name-column
+places-name-column = Named.places-name-column
 
 pub answers-cross : Answers-cross
 answers-cross = Named.answers-cross

@@ -16,7 +16,7 @@ use Rattle.reader.specs.Reading.{bit-from}
 use Rattle.crossing.specs.Differing.{lowest-differing, plan-differing}
 
 -- the bytes from two places on have another t-th byte
-abbrev pub bytes-differ : List ℕ → (p q t : ℕ) → Bool
+abbrev bytes-differ : List ℕ → (p q t : ℕ) → Bool
 bytes-differ ps p q t = not (eqb (getD ps (p + t) 0) (getD ps (q + t) 0))
 
 -- the bits from two places on agree below j

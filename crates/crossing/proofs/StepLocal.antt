@@ -4,15 +4,14 @@ use mathlib.Core.List.{List}
 use Prim.Native.Nat.{ℕ}
 use borrow.Author.Tests.{ne-eqb}
 use Rattle.rack.proofs.Logic.{by-eq}
-use Rattle.rack.proofs.Paths.{other-end-below}
-use Rattle.rack.specs.PlanFile.{plan-cards, plan-columns, plan-bit}
+use Rattle.rack.specs.PlanFile.{plan-columns, plan-bit}
 use Rattle.forwarder.specs.Forwarding.{Step, step}
 use Rattle.forwarder.specs.Calls.{step-refusal}
 use Rattle.forwarder.specs.Promises.{Same-address, Step-local, Step-call-local}
 use Rattle.forwarder.specs.declared.step.Stepped.{Stepped}
 use Rattle.forwarder.proofs.Frames.{answered-cards}
 use Rattle.forwarder.proofs.Promises.{step-local, step-call-local}
-use Rattle.forwarder.proofs.Stepping.{step-two}
+use Rattle.forwarder.proofs.Stepping.{step-two, step-far-below}
 use Rattle.crossing.specs.Differing.{plan-differing}
 use Rattle.crossing.specs.Crossing.{step-column, Column-or-none}
 use Rattle.crossing.specs.Promises.{Step-column-local, Frame-step-local}
@@ -39,7 +38,7 @@ step-column-local ps qs a b en em ek touch other far own goal =
     over : step ps a b .outcome ≡ 2 → plan-differing ps a (step ps a b .far) ≡ plan-differing qs a (step qs a b .far)
     over e =
         let o = step-two ps a b e in
-        let below = other-end-below (plan-cards ps) a _ (o .nearer .first) (o .nearer .second) in
+        let below = rw (o .far) at (step-far-below ps a b e) in
         same-differing ps qs a (step ps a b .far) ek own (rw (o .far) (far (step ps a b .link) (o .inside, o .nearer .of-a) below))
         ∙ ap (λ (s : Step). plan-differing qs a (s .far)) same
 

@@ -2,14 +2,14 @@
 -- Quotations: docs/REQUIREMENTS.md.
 use mathlib.Core.Path.{_≡_}
 use mathlib.Core.Bool.{_&&_, cond}
-use mathlib.Core.List.{List, [], _∷_}
+use mathlib.Core.List.{List}
 use Prim.Native.Nat.{ℕ}
 use lib.Dec.{ltb, eqb}
-use lib.ListN.{length}
+use lib.ListN.{length, getD}
 use Rattle.rack.specs.Lists.{one}
 use Rattle.rack.specs.PlanFile.{plan-columns, plan-hamming}
 use Rattle.forwarder.specs.Forwarding.{step, walk}
-use Rattle.forwarder.specs.Calls.{step-refusal, walk-refusal, Step-says, Walk-says}
+use Rattle.forwarder.specs.Calls.{step-refusal, walk-hops, walk-refusal, Step-says, Walk-says}
 use Rattle.forwarder.specs.declared.walk.Traffic.{Traffic}
 use Rattle.crossing.specs.Differing.{plan-differing}
 use Rattle.crossing.specs.declared.FrameStep.{FrameStep}
@@ -22,15 +22,9 @@ use Rattle.crossing.specs.declared.places.Places.{Places}
 unfoldable pub step-column : List ℕ → (a b : ℕ) → ℕ
 step-column ps a b = cond (eqb (step ps a b .outcome) 2) (plan-differing ps a (step ps a b .far)) (plan-columns ps)
 
--- the column between the first two of the cards met
-unfoldable pub first-crossed : List ℕ → (met : List ℕ) → ℕ
-first-crossed ps [] = plan-columns ps
-first-crossed ps (c ∷ []) = plan-columns ps
-first-crossed ps (c ∷ d ∷ cs) = plan-differing ps c d
-
--- "the first column crossed, or none for a walk without hops"
+-- "the first column crossed, or none for a walk without hops": between card a and the second card met
 unfoldable pub walk-column : List ℕ → (a b : ℕ) → ℕ
-walk-column ps a b = first-crossed ps (walk ps a b .met)
+walk-column ps a b = cond (eqb (walk-hops (walk ps a b)) 0) (plan-columns ps) (plan-differing ps a (getD (walk ps a b .met) 1 0))
 
 -- ANSWERS
 -- 1 and column j, where nothing is refused and it is one of the k; else none, 0 and 0

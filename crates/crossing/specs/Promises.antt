@@ -7,7 +7,7 @@ use mathlib.Core.List.{List, [], _∷_}
 use Prim.Native.Nat.{ℕ, _≤_, _<_}
 use lib.ListN.{length, getD}
 use Rattle.rack.specs.Lists.{differ}
-use Rattle.rack.specs.Wiring.{Link, Wiring, link-count, link-at}
+use Rattle.rack.specs.Wiring.{Link, Wiring, link-count, link-at, joins}
 use Rattle.rack.specs.Columns.{column, columns, column-count, address, hamming}
 use Rattle.rack.specs.PlanFile.{plan-columns, plan-wiring}
 use Rattle.rack.specs.Refusals.{wiring-refusal}
@@ -17,9 +17,10 @@ use Rattle.forwarder.specs.Calls.{walk-hops}
 use Rattle.forwarder.specs.Promises.{If-alike, Same-address, Same-if-card}
 use Rattle.forwarder.specs.declared.walk.Traffic.{Traffic}
 use Rattle.crossing.specs.Differing.{lowest-differing, plan-differing, column-number}
-use Rattle.crossing.specs.Crossing.{step-column, walk-column, Frame-step-says, Frame-walk-says}
+use Rattle.crossing.specs.Crossing.{step-column, walk-column, Places-are, Frame-step-says, Frame-walk-says}
 use Rattle.crossing.specs.declared.FrameStep.{FrameStep}
 use Rattle.crossing.specs.declared.FrameWalk.{FrameWalk}
+use Rattle.crossing.specs.declared.places.Places.{Places}
 
 -- "the lowest column that differs, or none where they are equal": k exactly if the two are equal, and j below k exactly if they differ at j
 -- and agree below it
@@ -58,7 +59,18 @@ Plan-link-crosses =
     (ps : List ℕ) (i : ℕ) → plan-refusal ps ≡ 0 → i < link-count (plan-wiring ps) →
     Crosses-own-column (plan-wiring ps) (plan-columns ps) (plan-differing ps) (link-at (plan-wiring ps) i)
 
--- THE CALLS: a step's answer has a column exactly if it is over a link, a walk's exactly if it has hops; so none with any refusal
+-- THE ANSWERS: a column is found with the places exactly if some differ
+unfoldable pub Places-found : Type 0
+Places-found = (ps : List ℕ) (a b : ℕ) (r : Places) → Places-are ps a b r → (r .first .found ≡ 1) ↔ (1 ≤ r .count)
+
+-- "For a linked pair in an accepted rack it is that link's column": of the places counted on a plan that was read
+unfoldable pub Places-name-column : Type 0
+Places-name-column =
+    (ps : List ℕ) (a b i : ℕ) (r : Places) → plan-refusal ps ≡ 0 → i < link-count (plan-wiring ps) →
+    joins a b (link-at (plan-wiring ps) i) ≡ true → Places-are ps a b r →
+    (r .count ≡ 1) × (r .first .found ≡ 1) × (r .first .column ≡ column-number (plan-wiring ps) (link-at (plan-wiring ps) i))
+
+-- a step's answer has a column exactly if it is over a link, a walk's exactly if it has hops; so none with any refusal
 unfoldable pub Answers-cross : Type 0
 Answers-cross =
     ((ps : List ℕ) (a b : ℕ) (r : FrameStep) → Frame-step-says ps a b r → (r .crossed .found ≡ 1) ↔ (r .stepped .outcome ≡ 2))

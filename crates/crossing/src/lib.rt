@@ -1,5 +1,4 @@
 // Steps and walks with the column that they cross. Definitions in specs/, a link's column in proofs/.
-ghost use mathlib.Core.Path.{_≡_};
 ghost use Rattle.rack.specs.Hops.{hops};
 ghost use Rattle.rack.specs.PlanFile.{plan-wiring};
 ghost use Rattle.forwarder.specs.Calls.{Arrived, Can-take, Frame, Full};

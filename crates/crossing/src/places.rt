@@ -29,7 +29,7 @@ pub struct Places {
     pub first: FirstColumn,
 }
 
-// How many of `count` bytes from `first` on are those from `second` on, up to the first that is not.
+// How many of the `count` bytes from `first` on equal those from `second` on, before the first that differs.
 fn equal_bytes(plan: &[u8], first: usize, second: usize, count: usize) -> usize
     requires { ⌜ (first + count ≤ length (now plan)) × (second + count ≤ length (now plan)) ⌝ }
     ensures { λ r. ⌜ r ≡ lowest count (λ t. not (eqb (getD (now (plan .entry)) (first + t) 0) (getD (now (plan .entry)) (second + t) 0))) ⌝ }

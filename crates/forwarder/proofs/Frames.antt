@@ -31,6 +31,9 @@ module _ (ps : List ℕ) (a b : ℕ) where
   unfolding step-refusal
   both-cards e h k = rw (eq-eqb (layout-refusal ps) 0 e, lt-leb (plan-cards ps) a h, lt-leb (plan-cards ps) b k) refl
 
+  pub answered-layout : step-refusal ps a b ≡ 0 → layout-refusal ps ≡ 0
+  answered-layout e = by-eq (layout-refusal ps) 0 (λ l. l) (λ n. absurd (n (sym (no-plan n) ∙ e)))
+
   pub answered-cards : step-refusal ps a b ≡ 0 → (a < plan-cards ps) × (b < plan-cards ps)
   answered-cards e =
       by-eq (layout-refusal ps) 0

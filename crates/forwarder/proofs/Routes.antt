@@ -7,13 +7,12 @@ use native.Mathlib.Omega.{arith}
 use lib.ListN.{length, set, replicate, length-append, length-replicate}
 use lib.Seq.{append-snoc, set-at}
 use Rattle.rack.specs.PlanFile.{plan-cards, plan-columns, plan-hamming}
-use Rattle.rack.proofs.Paths.{other-end-below}
 use Rattle.reader.proofs.Addresses.{hamming-columns}
 use Rattle.forwarder.specs.Forwarding.{Walk, step, walk-from, walk}
 use Rattle.forwarder.specs.Calls.{Step-is, walk-hops}
 use Rattle.forwarder.specs.Parts.{Route-is}
 use Rattle.forwarder.specs.declared.step.Stepped.{Stepped}
-use Rattle.forwarder.proofs.Stepping.{step-two, step-less, step-outcome-le}
+use Rattle.forwarder.proofs.Stepping.{step-less, step-far-below, step-outcome-le}
 use Rattle.forwarder.proofs.Walking.{walk-ended, after, walk-goes-on}
 
 -- the whole walk is what is still to be walked, behind the cards left
@@ -62,9 +61,7 @@ module _ (ps : List ℕ) (a b : ℕ) where
     room-left h = omega (arith, far-less h, z .enough, z .steps)
 
     pub far-is-card : s .outcome ≡ 2 → s .far < plan-cards ps
-    far-is-card h =
-        let o = step-two ps (z .card) b (over h) in
-        rw (z .next .far, o .far) (other-end-below (plan-cards ps) (z .card) _ (o .nearer .first) (o .nearer .second))
+    far-is-card h = rw (z .next .far) (step-far-below ps (z .card) b (over h))
 
     -- a step over a link, and the card that it leads to is written
     pub walk-steps : s .outcome ≡ 2 → plan-columns ps ≤ 255 → (r : Stepped) → Step-is (step ps (s .far) b) r

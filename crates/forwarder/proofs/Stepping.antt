@@ -10,6 +10,7 @@ use borrow.Author.Tests.{eq-eqb, ne-eqb, ltb-true, lt-ltb, le-ltb}
 use Rattle.rack.specs.Lists.{lowest}
 use Rattle.rack.specs.Wiring.{Link, Wiring, link-count, link-at, touches, other-end}
 use Rattle.rack.proofs.Logic.{by-bool, by-eq, by-lt, and-left, and-right}
+use Rattle.rack.proofs.Paths.{other-end-below}
 use Rattle.rack.proofs.Tables.{lowest-passes, lowest-least, lowest-is}
 use Rattle.rack.specs.PlanFile.{plan-cards, plan-wiring, plan-hamming}
 use Rattle.forwarder.specs.Forwarding.{step-of, leads-nearer, step}
@@ -100,6 +101,9 @@ module _ (ps : List ℕ) where
 
   pub step-less : (a b : ℕ) → step ps a b .outcome ≡ 2 → plan-hamming ps (step ps a b .far) b < plan-hamming ps a b
   step-less a b h = let o = step-two a b h in rw (o .far) (o .nearer .less)
+
+  pub step-far-below : (a b : ℕ) → step ps a b .outcome ≡ 2 → step ps a b .far < plan-cards ps
+  step-far-below a b h = let o = step-two a b h in rw (o .far) (other-end-below (plan-cards ps) a _ (o .nearer .first) (o .nearer .second))
 
   -- where a link leads nearer, the step is over a link
   pub nearer-two : (a b : ℕ) → a ≢ b → (i : ℕ) → i < link-count inner → leads-nearer ps a b (link-at inner i) ≡ true → step ps a b .outcome ≡ 2

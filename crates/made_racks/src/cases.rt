@@ -107,6 +107,7 @@ changed|  4|    5|  1|  26| 0|  2|ring 4, 258 columns
 changed|  4|    4|  3|  26| 0|  2|ring 4, 3 columns
 changed|  4|    6|  9|  26| 0|  2|ring 4, an end at 9
 changed|  4|   22|  4|  26| 0|  2|ring 4, 4 at bit 2
+changed|  4|   23|  3|  26| 0|  2|ring 4, card 1 at 3
 changed|256|16390|  0|5126| 0|128|ring 256, whole
 changed|256| 3078|  0|5126| 0|128|ring 256, card 128 byte 0 at 0
 changed|256| 1046|  0|5126| 0|128|ring 256, card 1 byte 0 at 0

@@ -1,22 +1,21 @@
 -- Rows of bits that are the addresses are found: "no addresses" exactly if there are none, else every embedding reduces to their columns.
 -- Assumes nothing.
 use mathlib.Core.Path.{_≡_, sym, ap, _∙_, subst}
-use mathlib.Core.Bool.{Bool, true, false}
+use mathlib.Core.Bool.{Bool, true}
 use mathlib.Core.List.{List, []}
 use Prim.Native.Nat.{ℕ, _<_, _≤_}
-use lib.ListN.{length, getD}
+use lib.ListN.{getD}
 use Rattle.rack.specs.Lists.{tabulate}
 use Rattle.rack.specs.Wiring.{Wiring}
 use Rattle.rack.specs.Hops.{connected}
-use Rattle.rack.specs.Columns.{column, columns, column-count, address, Embedding}
+use Rattle.rack.specs.Columns.{columns, column-count, address, Embedding}
 use Rattle.rack.specs.Embeddings.{column-of, times}
 use Rattle.rack.specs.Refusals.{Refusal, well-formed, rack-refusal}
 use Rattle.rack.specs.WiringFile.{file-wiring, form-refusal, file-refusal}
 use Rattle.rack.specs.Promises.{No-addresses, Addresses-embed, Embedding-unique, Columns-once, File-as-wiring}
-use Rattle.rack.proofs.Lists.{in-getD}
-use Rattle.rack.proofs.Tables.{length-tabulate, tabulate-ext, tabulate-getD}
+use Rattle.rack.proofs.Tables.{tabulate-ext, tabulate-getD}
 use Rattle.rack.proofs.Hamming.{hamming-ext}
-use Rattle.rack.proofs.Columns.{column-link}
+use Rattle.rack.proofs.Columns.{column-of-address}
 use Rattle.rack.proofs.Refusals.{well-formed-rack}
 use Rattle.rack.proofs.Acceptance.{embedding-accepted}
 use Rattle.rack.proofs.Promises.{no-addresses, addresses-embed, embedding-unique, columns-once, file-as-wiring}
@@ -24,23 +23,12 @@ use Rattle.planner.specs.Planning.{Reduces-to, Found}
 
 -- THE COLUMNS of the addresses are the wiring's
 module _ (w : Wiring) where
-  column-long : (j : ℕ) → j < column-count w → length (getD (columns w) j []) ≡ w .cards
-  unfolding column-count column
-  column-long j h =
-      let l = column-link w (getD (columns w) j []) (in-getD (columns w) j [] h) in
-      ap length (sym (l .2)) ∙ length-tabulate (w .cards) _
-
-  column-of-address : (j : ℕ) → j < column-count w → column-of (w .cards) (address w) j ≡ getD (columns w) j []
-  unfolding column-of address
-  column-of-address j h =
-      ap (λ (n : ℕ). tabulate n (λ c. getD (getD (columns w) j []) c false)) (sym (column-long j h)) ∙ tabulate-getD (getD (columns w) j []) false
-
   columns-of-bits : (rows : ℕ → ℕ → Bool) → ((c j : ℕ) → c < w .cards → j < column-count w → rows c j ≡ address w c j)
       → tabulate (column-count w) (column-of (w .cards) rows) ≡ columns w
   unfolding column-of column-count
   columns-of-bits rows bits =
       tabulate-ext (column-count w) (column-of (w .cards) rows) (λ j. getD (columns w) j [])
-      (λ j h. tabulate-ext (w .cards) (λ c. rows c j) (λ c. address w c j) (λ c l. bits c j l h) ∙ column-of-address j h)
+      (λ j h. tabulate-ext (w .cards) (λ c. rows c j) (λ c. address w c j) (λ c l. bits c j l h) ∙ column-of-address w j h)
       ∙ tabulate-getD (columns w) []
 
 -- AN ANSWER to a well-formed, connected file, with the addresses as its bits

@@ -10,7 +10,8 @@ use Rattle.reader.proofs.Promises as reader
 use Rattle.forwarder.specs.Promises.{Step-first, Step-local, Step-call-local, Walk-ends, Frame-arrives, Walk-arrives, Walk-full, Stuck-uncounted}
 use Rattle.forwarder.proofs.Promises as forwarder
 use Rattle.crossing.specs.Promises.{Lowest-differing, Step-crosses, Walk-crosses, Link-crosses, Plan-link-crosses}
-use Rattle.crossing.specs.Promises.{Answers-cross, Step-names-column, Walk-names-column, Step-column-local, Frame-step-local}
+use Rattle.crossing.specs.Promises.{Places-found, Places-name-column, Answers-cross, Step-names-column, Walk-names-column}
+use Rattle.crossing.specs.Promises.{Step-column-local, Frame-step-local}
 use Rattle.crossing.proofs.Promises as crossing
 use Rattle.conference.specs.Promises.{Between-means, Conference-promise, Conference-refused, Conference-repeated, Conference-order}
 use Rattle.conference.proofs.Promises as conference
@@ -171,7 +172,14 @@ link-crosses = crossing.link-crosses
 pub plan-link-crosses : Plan-link-crosses
 plan-link-crosses = crossing.plan-link-crosses
 
--- so the calls' answers have a column, or none with any refusal, and on a plan that was read it is that of the link crossed first
+-- so with the places of two cards a column is found exactly if some differ, and of a linked pair it is that link's
+pub places-found : Places-found
+places-found = crossing.places-found
+
+pub places-name-column : Places-name-column
+places-name-column = crossing.places-name-column
+
+-- the calls' answers have a column, or none with any refusal, and on a plan that was read it is that of the link crossed first
 pub answers-cross : Answers-cross
 answers-cross = crossing.answers-cross
 

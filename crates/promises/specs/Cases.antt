@@ -6,7 +6,7 @@ use Rattle.rack.specs.Wiring.{Link, link, wiring}
 use Rattle.planner.specs.PlanBytes.{plan-bytes}
 use Rattle.promises.specs.Claims.{hex, Case, rack, file-of, plan-of}
 use Rattle.promises.specs.Claims.{file-is, refused, addresses, lists, plan-size, plan-is, read-as, walks, stuck, walk-answers}
-use Rattle.promises.specs.Claims.{differ-in, differ-nowhere, crosses, crosses-none}
+use Rattle.promises.specs.Claims.{gets-stuck, differ-in, differ-nowhere, crosses, crosses-none, column-is}
 use Rattle.promises.specs.Claims.{confers, confers-nowhere, conference-answers}
 
 unfoldable pub ring-of-four : List Link
@@ -121,13 +121,16 @@ call-cases =
 unfoldable pub crossing-cases : List Case
 crossing-cases =
     plan-of "P9's first step, and a step over each link of P5: the link's column" ring-plan
-    (crosses 0 2 0 ∷ crosses 0 3 1 ∷ crosses 3 0 1 ∷ crosses 1 2 1 ∷ crosses 2 3 0 ∷ [])
+    (crosses 0 2 0 ∷ crosses 0 3 1 ∷ crosses 3 0 1 ∷ crosses 1 2 1 ∷ crosses 2 3 0
+    ∷ column-is 0 0 ∷ column-is 1 1 ∷ column-is 2 0 ∷ column-is 3 1 ∷ [])
+    ∷ rack "the ring of four from link 1-2 on: columns by their lowest link" 4 (link 1 2 ∷ link 0 1 ∷ link 2 3 ∷ link 3 0 ∷ [])
+    (column-is 0 0 ∷ column-is 1 1 ∷ column-is 2 1 ∷ column-is 3 0 ∷ crosses 0 1 1 ∷ crosses 3 0 0 ∷ [])
     ∷ plan-of "arrived: none" ring-plan (crosses-none 0 0 ∷ crosses-none 3 3 ∷ differ-nowhere 3 3 ∷ [])
     ∷ plan-of "P10: a stuck step crosses none, and a walk that is stuck after a hop has its column" (set ring-plan 24 0)
-    (stuck 0 2 ∷ crosses-none 0 2 ∷ crosses 1 2 0 ∷ differ-nowhere 0 2 ∷ [])
+    (stuck 0 2 ∷ crosses-none 0 2 ∷ differ-nowhere 0 2 ∷ gets-stuck 1 2 1 (1 ∷ 0 ∷ []) ∷ crosses 1 2 0 ∷ [])
     ∷ plan-of "two columns differ: the lowest, from the card itself and not from its goal" (set ring-plan 23 3)
     (crosses 0 2 0 ∷ differ-in 0 1 2 0 ∷ differ-nowhere 1 2 ∷ [])
-    ∷ plan-of "P5's plan with a spare bit: no column" (set ring-plan 23 5) (differ-in 0 1 1 0 ∷ differ-in 1 2 1 1 ∷ crosses 0 2 0 ∷ [])
+    ∷ plan-of "P5's plan with a spare bit, which is no column" (set ring-plan 23 5) (differ-in 0 1 1 0 ∷ differ-in 1 2 1 1 ∷ crosses 0 2 0 ∷ [])
     ∷ plan-of "nine columns: column 8 is the lowest" (hex "02 00 01 00 09 00 00 00 01 00 00 00 00 01") (differ-in 0 1 1 8 ∷ crosses 1 0 8 ∷ [])
     ∷ plan-of "nine columns: only spare bits differ" (hex "02 00 01 00 09 00 00 00 01 00 00 00 00 fe") (differ-nowhere 0 1 ∷ crosses-none 0 1 ∷ [])
     ∷ rack "one card, no column" 1 [] (crosses-none 0 0 ∷ differ-nowhere 0 0 ∷ [])

@@ -6,15 +6,15 @@ use Prim.Native.String.{String}
 use lib.Dec.{ltb, eqb}
 use lib.ListN.{length}
 use Rattle.rack.specs.Lists.{all, filter, tabulate, same}
-use Rattle.rack.specs.Wiring.{Link, wiring}
+use Rattle.rack.specs.Wiring.{Link, wiring, link-at}
 use Rattle.rack.specs.WiringFile.{file-bytes, file-wiring, file-refusal}
 use Rattle.rack.specs.Columns.{column-count, address}
 use Rattle.rack.specs.PlanFile.{plan-cards, plan-columns, plan-wiring, plan-hamming}
 use Rattle.planner.specs.PlanBytes.{plan-bytes}
 use Rattle.reader.specs.Plan.{plan-refusal}
-use Rattle.forwarder.specs.Forwarding.{step, walk}
+use Rattle.forwarder.specs.Forwarding.{step, Walk, walk}
 use Rattle.forwarder.specs.Calls.{lent-met, walk-hops, walk-refusal}
-use Rattle.crossing.specs.Differing.{plan-differing}
+use Rattle.crossing.specs.Differing.{plan-differing, column-number}
 use Rattle.crossing.specs.Crossing.{step-column, walk-column}
 use Rattle.conference.specs.Conference.{conference, conference-refusal}
 use Rattle.text.specs.Codes.{codes}
@@ -50,6 +50,8 @@ pub data Claim : Type 0 where
   -- on the plan, the walk from a to b arrives after so many hops with these cards met; the step from a to b is stuck
   walks : (a b hops : ℕ) → (met : List ℕ) → Claim
   stuck : (a b : ℕ) → Claim
+  -- the walk gets stuck after so many hops with these cards met
+  gets-stuck : (a b hops : ℕ) → (met : List ℕ) → Claim
   -- with these counts before it, the walk from a to b gives this number
   walk-answers : (a b : ℕ) → (frames hops : ℕ) → (number : ℕ) → Claim
   -- on the plan, two addresses differ in so many places, this column the lowest; in none
@@ -58,10 +60,16 @@ pub data Claim : Type 0 where
   -- on the plan, a step from a to b crosses this column, and it is the first that a walk crosses; they cross none
   crosses : (a b column : ℕ) → Claim
   crosses-none : (a b : ℕ) → Claim
+  -- of the wiring inside the plan, the number of a link's column
+  column-is : (link column : ℕ) → Claim
   -- on the plan, three cards confer at this card; at none; they are answered with this number
   confers : (a b c : ℕ) → (card : ℕ) → Claim
   confers-nowhere : (a b c : ℕ) → Claim
   conference-answers : (a b c : ℕ) → (number : ℕ) → Claim
+
+-- a walk ended so, after so many hops, with these cards met
+unfoldable pub ends-so : (arrived hops : ℕ) → (met : List ℕ) → Walk → Bool
+ends-so o h cs v = eqb (v .arrived) o && eqb (walk-hops v) h && same eqb (v .met) cs
 
 unfoldable pub claim-holds : (file plan : List ℕ) → Claim → Bool
 claim-holds bs ps (file-is xs) = same eqb bs xs
@@ -73,15 +81,15 @@ claim-holds bs ps (lists text) = same eqb (listing bs) (codes text)
 claim-holds bs ps (plan-size n) = eqb (length ps) n
 claim-holds bs ps (plan-is xs) = same eqb ps xs
 claim-holds bs ps (read-as n) = eqb (plan-refusal ps) n
-claim-holds bs ps (walks a b hops met) =
-    let v = walk ps a b in
-    eqb (v .arrived) 1 && eqb (walk-hops v) hops && same eqb (v .met) met
+claim-holds bs ps (walks a b hops met) = ends-so 1 hops met (walk ps a b)
 claim-holds bs ps (stuck a b) = eqb (step ps a b .outcome) 0
+claim-holds bs ps (gets-stuck a b hops met) = ends-so 0 hops met (walk ps a b)
 claim-holds bs ps (walk-answers a b f h n) = eqb (walk-refusal ps a b (record { frames = f; hops = h }) lent-met) n
 claim-holds bs ps (differ-in a b n j) = eqb (plan-hamming ps a b) n && ltb j (plan-columns ps) && eqb (plan-differing ps a b) j
 claim-holds bs ps (differ-nowhere a b) = eqb (plan-hamming ps a b) 0 && eqb (plan-differing ps a b) (plan-columns ps)
 claim-holds bs ps (crosses a b j) = ltb j (plan-columns ps) && eqb (step-column ps a b) j && eqb (walk-column ps a b) j
 claim-holds bs ps (crosses-none a b) = eqb (step-column ps a b) (plan-columns ps) && eqb (walk-column ps a b) (plan-columns ps)
+claim-holds bs ps (column-is i j) = ltb j (plan-columns ps) && eqb (column-number (plan-wiring ps) (link-at (plan-wiring ps) i)) j
 claim-holds bs ps (confers a b c x) =
     eqb (conference-refusal ps a b c) 0 && ltb x (plan-cards ps) && eqb (conference (plan-wiring ps) a b c) x
 claim-holds bs ps (confers-nowhere a b c) = eqb (conference-refusal ps a b c) 0 && eqb (conference (plan-wiring ps) a b c) (plan-cards ps)

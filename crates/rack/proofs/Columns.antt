@@ -6,12 +6,13 @@ use mathlib.Core.List.{List, [], _∷_}
 use Prim.Native.Nat.{ℕ, _<_}
 use lib.ListN.{length, getD, List·getD-eq-default}
 use borrow.Author.Tests.{not-true}
-use Rattle.rack.specs.Lists.{differ, count, any}
+use Rattle.rack.specs.Lists.{differ, count, any, tabulate}
 use Rattle.rack.specs.Wiring.{Link, Wiring}
 use Rattle.rack.specs.Columns.{nearer-first, side, column, same-column, add-column, add-columns, columns, column-count, address, hamming}
+use Rattle.rack.specs.Embeddings.{column-of}
 use Rattle.rack.proofs.Logic.{true-not-false, by-bool, by-lt, differ-self, differ-false}
 use Rattle.rack.proofs.Lists.{In, Distinct, any-in, in-any, in-left, in-right, in-append, in-getD, distinct-snoc, same-eq, same-self}
-use Rattle.rack.proofs.Tables.{getD-tabulate, getD-tabulate-past, tabulate-getD, count-tabulate}
+use Rattle.rack.proofs.Tables.{getD-tabulate, getD-tabulate-past, length-tabulate, tabulate-getD, count-tabulate}
 
 pub same-column-eq : (c d : List Bool) → same-column c d ≡ true → c ≡ d
 unfolding same-column
@@ -121,6 +122,18 @@ module _ (w : Wiring) where
       by-lt j (length (columns w))
       (λ h. let r = column-link (getD (columns w) j []) (in-getD (columns w) j [] h) in rw (← (r .2)) (column-zero (r .0)))
       (λ h. ap (λ (x : List Bool). getD x 0 false) (List·getD-eq-default (columns w) [] {n = j} h))
+
+  -- column j has the cards' bits j
+  column-long : (j : ℕ) → j < column-count w → length (getD (columns w) j []) ≡ w .cards
+  unfolding column-count column
+  column-long j h =
+      let l = column-link (getD (columns w) j []) (in-getD (columns w) j [] h) in
+      ap length (sym (l .2)) ∙ length-tabulate (w .cards) _
+
+  pub column-of-address : (j : ℕ) → j < column-count w → column-of (w .cards) (address w) j ≡ getD (columns w) j []
+  unfolding column-of address
+  column-of-address j h =
+      ap (λ (n : ℕ). tabulate n (λ c. getD (getD (columns w) j []) c false)) (sym (column-long j h)) ∙ tabulate-getD (getD (columns w) j []) false
 
   -- the differing places of two addresses are the columns in which the two cards differ
   pub address-count : (a b : ℕ) → hamming (column-count w) (address w a) (address w b) ≡ count (λ c. differ (getD c a false) (getD c b false)) (columns w)
