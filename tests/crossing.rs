@@ -24,7 +24,6 @@ extern "C" {
 }
 
 /// The number; the outcome, the link and the far card; 1 for a column or 0 for none, and the column.
-#[allow(dead_code)]
 pub fn step_frame(plan: &[u8], from: u32, goal: u32) -> (u32, [u32; 5]) {
     let mut answer = [0; 5];
     let number = unsafe {
@@ -41,7 +40,6 @@ pub fn step_frame(plan: &[u8], from: u32, goal: u32) -> (u32, [u32; 5]) {
 }
 
 /// The number; 1 for arrived or 0 for stuck, the hops and the counts, which begin at 0; 1 for a column or 0 for none, and the column.
-#[allow(dead_code)]
 pub fn walk_frame(plan: &[u8], from: u32, goal: u32) -> (u32, [u32; 6]) {
     let (mut met, mut answer) = ([0; 256], [0; 6]);
     let number = unsafe {

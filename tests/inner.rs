@@ -4,6 +4,7 @@
 
 #[allow(dead_code)]
 mod conference;
+#[allow(dead_code)]
 mod crossing;
 mod drawn;
 #[allow(dead_code)]

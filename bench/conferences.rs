@@ -1,29 +1,14 @@
-//! Times the worst conferences of racks of 256 cards beside the same call refused with 14, which reads the plan and does no more,
-//! and prints a table.
+//! Times the worst conferences of racks of 256 cards beside the same call refused with 14, which reads the plan and does no more.
 
-#[path = "../tests/calls.rs"]
-#[allow(dead_code)]
-mod calls;
-#[path = "../tests/conference.rs"]
-mod conference;
-#[allow(dead_code)]
-mod measured;
-#[allow(dead_code)]
-#[path = "../tests/racks/mod.rs"]
-mod racks;
-#[allow(dead_code)]
-#[path = "../tests/second/mod.rs"]
-mod second;
-
-use conference::conference_card;
-use measured::{Conference, Measured};
+use crate::conference::conference_card;
+use crate::measured::{self, Conference, Measured};
 use std::hint::black_box;
 use std::time::Instant;
 
 /// How often the two calls are made, one after the other.
 const SAMPLES: usize = 1_000;
 
-fn main() {
+pub fn print_table() {
     println!("Conference cards of racks of 256 cards, in microseconds. Refused with 14, the call reads the plan and does no more.\n");
     println!("| Rack | k | Pairs counted | Card | Refused | Answered | More |");
     println!("|---|---:|---:|---:|---:|---:|---:|");

@@ -1,22 +1,9 @@
-//! Times steps and walks that pass on the column crossed beside the C walk, which does not, and prints a table.
+//! Times steps and walks that pass on the column crossed beside the C walk, which does not.
 
-#[path = "../tests/calls.rs"]
-#[allow(dead_code)]
-mod calls;
-#[path = "../tests/crossing.rs"]
-mod crossing;
-#[allow(dead_code)]
-mod measured;
-#[allow(dead_code)]
-#[path = "../tests/racks/mod.rs"]
-mod racks;
-#[allow(dead_code)]
-#[path = "../tests/second/mod.rs"]
-mod second;
-
-use crossing::{step_frame, walk_frame};
-use measured::Frame;
-use second::{MET_BYTES, RECORD_BYTES};
+use crate::calls;
+use crate::crossing::{step_frame, walk_frame};
+use crate::measured::{self, Frame};
+use crate::second::{MET_BYTES, RECORD_BYTES};
 use std::hint::black_box;
 use std::time::Instant;
 
@@ -24,7 +11,7 @@ use std::time::Instant;
 const SAMPLES: usize = 1_000;
 const CALLS: u32 = 16;
 
-fn main() {
+pub fn print_table() {
     println!("Steps and walks with the column that they cross, and the C walk to the same card without it, in microseconds.\n");
     println!(
         "| Rack | k | Worst step: C walk | `step_frame` | Longest walk: C walk | `walk_frame` |"

@@ -1,0 +1,25 @@
+//! Times calls that C has not, by the library for the tests, and prints a table of each.
+
+#[path = "../tests/calls.rs"]
+#[allow(dead_code)]
+mod calls;
+#[path = "../tests/conference.rs"]
+mod conference;
+mod conferences;
+#[path = "../tests/crossing.rs"]
+mod crossing;
+mod crossings;
+#[allow(dead_code)]
+mod measured;
+#[allow(dead_code)]
+#[path = "../tests/racks/mod.rs"]
+mod racks;
+#[allow(dead_code)]
+#[path = "../tests/second/mod.rs"]
+mod second;
+
+fn main() {
+    crossings::print_table();
+    println!();
+    conferences::print_table();
+}
