@@ -1,4 +1,4 @@
--- A link's ends differ in the link's own column alone. Assumes nothing.
+-- A link's ends differ in the link's column alone. Assumes nothing.
 use mathlib.Core.Path.{_≡_, sym, ap, _∙_}
 use mathlib.Core.Bool.{false}
 use mathlib.Core.List.{List, []}
@@ -18,7 +18,7 @@ use Rattle.rack.specs.PlanFile.{plan-wiring, plan-bit}
 use Rattle.reader.specs.Plan.{plan-refusal}
 use Rattle.reader.proofs.Promises.{read-accepted, read-columns, read-bit}
 use Rattle.crossing.specs.Differing.{lowest-differing, plan-differing, column-number}
-use Rattle.crossing.specs.Promises.{Crosses-own-column, Link-crosses, Plan-link-crosses}
+use Rattle.crossing.specs.Promises.{Crosses-link-column, Link-crosses, Plan-link-crosses}
 use Rattle.crossing.proofs.Differing.{differing-ended, differing-ext}
 
 module _ (w : Wiring) (acc : Accepted w) (l : Link) (i : In l (w .links)) where
@@ -52,11 +52,11 @@ module _ (w : Wiring) (acc : Accepted w) (l : Link) (i : In l (w .links)) where
   ends-agree : (j : ℕ) → j < x .at → address w (l .first) j ≡ address w (l .second) j
   ends-agree j h = differ-false (address w (l .first) j) (address w (l .second) j) (x .others j (omega (arith, x .inside)) (λ e. omega arith))
 
-  crosses-own-column : Crosses-own-column w k (λ a b. lowest-differing k (address w a) (address w b)) l
-  crosses-own-column =
+  crosses-link-column : Crosses-link-column w k (λ a b. lowest-differing k (address w a) (address w b)) l
+  crosses-link-column =
       record {
         inside = rw number-crossed (x .inside);
-        own = rw number-crossed (sym crossed-column);
+        numbered = rw number-crossed (sym crossed-column);
         there =
             differing-ended k (address w (l .first)) (address w (l .second)) (x .at) (omega (arith, x .inside)) ends-agree (λ _. x .split)
             ∙ sym number-crossed;
@@ -68,7 +68,7 @@ module _ (w : Wiring) (acc : Accepted w) (l : Link) (i : In l (w .links)) where
 
 pub link-crosses : Link-crosses
 unfolding Link-crosses
-link-crosses w i some h l = crosses-own-column w (wiring-accepted w some h) (link-at w i) (in-getD (w .links) i (link 0 0) l)
+link-crosses w i some h l = crosses-link-column w (wiring-accepted w some h) (link-at w i) (in-getD (w .links) i (link 0 0) l)
 
 -- a plan that was read has the planner's columns and addresses
 module _ (ps : List ℕ) (h : plan-refusal ps ≡ 0) where
@@ -87,11 +87,11 @@ plan-link-crosses ps i h l =
     let w = plan-wiring ps in
     let acc = read-accepted ps h in
     let m = in-getD (w .links) i (link 0 0) l in
-    let own = crosses-own-column w acc (link-at w i) m in
+    let crosses = crosses-link-column w acc (link-at w i) m in
     let ends = link-inside w (acc .rack) (link-at w i) m in
     record {
-      inside = rw (read-columns ps h) (own .inside);
-      own = own .own;
-      there = read-differing ps h _ _ (ends .0) (ends .1) ∙ own .there;
-      back = read-differing ps h _ _ (ends .1) (ends .0) ∙ own .back;
+      inside = rw (read-columns ps h) (crosses .inside);
+      numbered = crosses .numbered;
+      there = read-differing ps h _ _ (ends .0) (ends .1) ∙ crosses .there;
+      back = read-differing ps h _ _ (ends .1) (ends .0) ∙ crosses .back;
     }

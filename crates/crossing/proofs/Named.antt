@@ -24,7 +24,7 @@ use Rattle.forwarder.specs.declared.walk.Traffic.{Traffic}
 use Rattle.forwarder.proofs.Stepping.{step-two}
 use Rattle.crossing.specs.Differing.{plan-differing, column-number}
 use Rattle.crossing.specs.Crossing.{step-column, walk-column, Column-or-none, Frame-step-says, Frame-walk-says}
-use Rattle.crossing.specs.Promises.{Lowest-differing, Crosses-own-column, Plan-link-crosses, Places-found, Places-name-column}
+use Rattle.crossing.specs.Promises.{Lowest-differing, Crosses-link-column, Plan-link-crosses, Places-found, Places-name-column}
 use Rattle.crossing.specs.Promises.{Answers-cross, Step-names-column, Walk-names-column}
 use Rattle.crossing.specs.declared.FrameStep.{FrameStep}
 use Rattle.crossing.specs.declared.FrameWalk.{FrameWalk}
@@ -103,10 +103,10 @@ answers-cross = (
 )
 
 -- ON A PLAN THAT WAS READ a linked pair differs in its link's column alone, and a step crosses it
-ends-differ-there : (ps : List ℕ) (a b : ℕ) (l : Link) → Crosses-own-column (plan-wiring ps) (plan-columns ps) (plan-differing ps) l → Ends a b l
+ends-differ-there : (ps : List ℕ) (a b : ℕ) (l : Link) → Crosses-link-column (plan-wiring ps) (plan-columns ps) (plan-differing ps) l → Ends a b l
     → plan-differing ps a b ≡ column-number (plan-wiring ps) l
-ends-differ-there ps a b l own (inl e) = ap₂ (plan-differing ps) (sym (e .0)) (sym (e .1)) ∙ own .there
-ends-differ-there ps a b l own (inr e) = ap₂ (plan-differing ps) (sym (e .1)) (sym (e .0)) ∙ own .back
+ends-differ-there ps a b l crosses (inl e) = ap₂ (plan-differing ps) (sym (e .0)) (sym (e .1)) ∙ crosses .there
+ends-differ-there ps a b l crosses (inr e) = ap₂ (plan-differing ps) (sym (e .1)) (sym (e .0)) ∙ crosses .back
 
 pub places-name-column : Places-name-column
 unfolding Places-name-column Plan-link-crosses
@@ -117,9 +117,9 @@ places-name-column ps a b i r h l t s =
     let rack = read-accepted ps h .rack in
     let inside = rack .inside a b joined in
     let hops = read-measured ps h .measured a b (rw (wiring-at-cards 6 ps) at (inside .0)) (rw (wiring-at-cards 6 ps) at (inside .1)) in
-    let own = plan-link-crosses ps i h l in
-    let at = ends-differ-there ps a b (link-at w i) own ends in
-    let f = some-found 0 (plan-differing ps a b) (plan-columns ps) (r .first) (s .first) refl (omega (arith, at, own .inside)) in
+    let crosses = plan-link-crosses ps i h l in
+    let at = ends-differ-there ps a b (link-at w i) crosses ends in
+    let f = some-found 0 (plan-differing ps a b) (plan-columns ps) (r .first) (s .first) refl (omega (arith, at, crosses .inside)) in
     (s .count ∙ hops ∙ hops-one w rack a b joined, f .0, f .1 ∙ at)
 
 step-column-named : (ps : List ℕ) (a b : ℕ) → plan-refusal ps ≡ 0 → step ps a b .outcome ≡ 2

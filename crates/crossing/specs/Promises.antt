@@ -41,9 +41,9 @@ Walk-crosses =
     ((walk-column ps a b < plan-columns ps) ↔ (1 ≤ walk-hops (walk ps a b))) × (walk-column ps a b ≡ step-column ps a b)
 
 -- "For a linked pair in an accepted rack it is that link's column", from either end: the lowest column that differs has its number
-pub record Crosses-own-column (w : Wiring) (k : ℕ) (differing : (a b : ℕ) → ℕ) (l : Link) : Type 0 where
+pub record Crosses-link-column (w : Wiring) (k : ℕ) (differing : (a b : ℕ) → ℕ) (l : Link) : Type 0 where
   pub inside : column-number w l < k
-  pub own : getD (columns w) (column-number w l) [] ≡ column w l
+  pub numbered : getD (columns w) (column-number w l) [] ≡ column w l
   pub there : differing (l .first) (l .second) ≡ column-number w l
   pub back : differing (l .second) (l .first) ≡ column-number w l
 
@@ -51,13 +51,13 @@ unfoldable pub Link-crosses : Type 0
 Link-crosses =
     (w : Wiring) (i : ℕ) → 1 ≤ w .cards → wiring-refusal w .number ≡ 0 → i < link-count w →
     let k = column-count w in
-    Crosses-own-column w k (λ a b. lowest-differing k (address w a) (address w b)) (link-at w i)
+    Crosses-link-column w k (λ a b. lowest-differing k (address w a) (address w b)) (link-at w i)
 
 -- the same on a plan that was read
 unfoldable pub Plan-link-crosses : Type 0
 Plan-link-crosses =
     (ps : List ℕ) (i : ℕ) → plan-refusal ps ≡ 0 → i < link-count (plan-wiring ps) →
-    Crosses-own-column (plan-wiring ps) (plan-columns ps) (plan-differing ps) (link-at (plan-wiring ps) i)
+    Crosses-link-column (plan-wiring ps) (plan-columns ps) (plan-differing ps) (link-at (plan-wiring ps) i)
 
 -- THE ANSWERS: a column is found with the places exactly if some differ
 unfoldable pub Places-found : Type 0

@@ -67,8 +67,8 @@ pub extern "C" fn test_card_address<'a>(plan: &'a [u8], card: u32, part: &mut &'
     number
 }
 
-// The differing places of two cards on a plan with its layout: 1, 12, 14. The fields are their number, 1 for a column or 0 for none, and
-// the lowest column; zeros with a refusal.
+// The differing places of two cards of a plan, whose sizes and table are made here: 1, 12, 14. The fields are their number, 1 for a column
+// or 0 for none, and the lowest column; zeros with a refusal.
 #[no_mangle]
 pub extern "C" fn test_plan_places(plan: &[u8], a: u32, b: u32, answer: &mut [u32]) -> u32
     ensures { λ r. ⌜ Answered 3 r (now (answer .entry)) (now (answer .exit)) Unit (Places-say (now (plan .entry)) a b r (now (answer .exit))) ⌝ }
