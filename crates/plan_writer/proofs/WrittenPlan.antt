@@ -1,5 +1,5 @@
 -- The bytes of a plan, written from their start on: sizes, ends, addresses. Assumes nothing.
-use mathlib.Core.Path.{_≡_, refl, sym}
+use mathlib.Core.Path.{_≡_, refl, sym, _∙_}
 use mathlib.Core.List.{List, [], _++_}
 use Prim.Native.Nat.{ℕ, _+_, _*_, _≤_, _<_}
 use native.Mathlib.Nat.{suc-mul, mul-le-mul, mul-le-mul-right}
@@ -32,41 +32,43 @@ sizes-appended n m k o₀ o₁ o₂ o₃ a b c =
     appends-then 0 4 o₀ o₂ o₃ (two-bytes n ++ two-bytes m) (two-bytes k) (simp (length-append, length-two-bytes) refl)
     (appends-then 0 2 o₀ o₁ o₂ (two-bytes n) (two-bytes m) (simp length-two-bytes refl) a b) c
 
+-- SIZES, ENDS, ADDRESSES one after another, in a buffer that was zero
+abbrev pub head : (n m k : ℕ) → List ℕ
+head n m k = two-bytes n ++ two-bytes m ++ two-bytes k
+
+module _ (n m k : ℕ) (ends addresses : List ℕ) where
+  length-head : length (head n m k) ≡ 6
+  length-head = simp (length-append, length-two-bytes) refl
+
+  pub parts-written : (at : ℕ) (o₀ o₁ o₂ o₃ : List ℕ) → at ≡ 6 + length ends → o₀ ≡ replicate lent-plan 0
+      → Appends 0 o₀ o₁ (head n m k) → Appends 6 o₁ o₂ ends → Appends at o₂ o₃ addresses → Written o₃ (head n m k ++ ends ++ addresses)
+  parts-written at o₀ o₁ o₂ o₃ e z a b c =
+      appends-then 0 at o₀ o₂ o₃ (head n m k ++ ends) addresses (omega (arith, length-head, length-append (head n m k) ends))
+      (appends-then 0 6 o₀ o₁ o₂ (head n m k) ends (omega (arith, length-head)) a b) c [] refl (rw z (written-none lent-plan))
+
+  pub length-parts : length (head n m k ++ ends ++ addresses) ≡ 6 + length ends + length addresses
+  length-parts = omega (arith, length-head, length-append (head n m k) ends, length-append (head n m k ++ ends) addresses)
+
 module _ (bs ws : List ℕ) (n m k : ℕ) (sizes : Sizes-are bs n m) where
   abbrev addresses : List ℕ
   addresses = blocks n (λ c. tabulate (address-size k) (word-byte ws c))
 
-  abbrev head : List ℕ
-  head = two-bytes n ++ two-bytes m ++ two-bytes k
+  length-addresses : length addresses ≡ n * address-size k
+  length-addresses = length-blocks n (address-size k) (λ c. tabulate (address-size k) (word-byte ws c)) (λ c. length-tabulate (address-size k) (word-byte ws c))
 
   length-ends : length (blocks (2 * m) (end-pair bs)) ≡ 4 * m
   length-ends = omega (arith, length-blocks (2 * m) 2 (end-pair bs) (λ i. length-two-bytes (number-at bs (4 + 2 * i))))
 
-  length-head : length head ≡ 6
-  length-head = simp (length-append, length-two-bytes) refl
-
   pub plan-written : (size at : ℕ) (o₀ o₁ o₂ o₃ : List ℕ) → size ≡ address-size k → at ≡ addresses-start m + 0 * size → o₀ ≡ replicate lent-plan 0
-      → Appends 0 o₀ o₁ head → Appends 6 o₁ o₂ (blocks (2 * m) (end-pair bs)) → Appends at o₂ o₃ (blocks n (λ c. tabulate size (word-byte ws c)))
+      → Appends 0 o₀ o₁ (head n m k) → Appends 6 o₁ o₂ (blocks (2 * m) (end-pair bs)) → Appends at o₂ o₃ (blocks n (λ c. tabulate size (word-byte ws c)))
       → Written o₃ (written-bytes bs ws k)
   unfolding written-bytes
   plan-written size at o₀ o₁ o₂ o₃ e e′ z a b c =
-      let start : at ≡ addresses-start m = omega arith in
       rw (← (sizes .cards), ← (sizes .links))
-      (appends-then 0 (addresses-start m) o₀ o₂ o₃ (head ++ blocks (2 * m) (end-pair bs)) addresses
-      (simp length-append (omega (arith, length-two-bytes n, length-two-bytes m, length-two-bytes k, length-ends)))
-      (appends-then 0 6 o₀ o₁ o₂ head (blocks (2 * m) (end-pair bs)) (omega (arith, length-head)) a b)
-      (rw (start, e) at c) [] refl (rw z (written-none lent-plan)))
+      (parts-written n m k (blocks (2 * m) (end-pair bs)) addresses at o₀ o₁ o₂ o₃ (omega (arith, length-ends)) z a b (rw e at c))
 
   pub plan-length : (size r : ℕ) → size ≡ address-size k → r ≡ addresses-start m + n * size → r ≡ length (written-bytes bs ws k)
   unfolding written-bytes
   plan-length size r e e′ =
       rw (← (sizes .cards), ← (sizes .links), e′, e)
-      (sym (simp length-append (omega (
-        arith,
-        length-two-bytes n,
-        length-two-bytes m,
-        length-two-bytes k,
-        length-ends,
-        length-blocks n
-            (address-size k) (λ c. tabulate (address-size k) (word-byte ws c)) (λ c. length-tabulate (address-size k) (word-byte ws c)),
-      ))))
+      (sym (length-parts n m k (blocks (2 * m) (end-pair bs)) addresses ∙ omega (arith, length-ends, length-addresses)))

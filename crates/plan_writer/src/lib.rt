@@ -14,7 +14,7 @@ use rack::plan_file::address_size;
 use rack::plan_file::address_start;
 
 // Writes the three sizes.
-fn put_sizes(output: &mut [u8], n: usize, m: usize, k: usize)
+pub fn put_sizes(output: &mut [u8], n: usize, m: usize, k: usize)
     requires { ⌜ 6 ≤ length (now output) ⌝ }
     ensures { λ _. ⌜ Appends 0 (now (output .entry)) (now (output .exit)) (two-bytes n ++ two-bytes m ++ two-bytes k) ⌝ }
 {

@@ -3,7 +3,7 @@ use mathlib.Core.Path.{_≡_, refl, sym, ap, _∙_}
 use mathlib.Core.Bool.{Bool, true, false, not}
 use mathlib.Core.Logic.{_⊎_, inl, inr, ⊎-elim}
 use mathlib.Core.List.{List, [], _∷_}
-use Prim.Native.Nat.{ℕ, _<_}
+use Prim.Native.Nat.{ℕ, _≤_, _<_}
 use lib.ListN.{length, getD, List·getD-eq-default}
 use borrow.Author.Tests.{not-true}
 use Rattle.rack.specs.Lists.{differ, count, any, tabulate}
@@ -116,15 +116,19 @@ module _ (w : Wiring) where
       (λ h. column-bit l 0 h ∙ differ-self (nearer-first w l 0))
       (λ h. getD-tabulate-past (w .cards) (side w l) 0 false h)
 
+  pub past-columns : (c j : ℕ) → column-count w ≤ j → address w c j ≡ false
+  unfolding address column-count
+  past-columns c j h = ap (λ (x : List Bool). getD x c false) (List·getD-eq-default (columns w) [] {n = j} h)
+
   pub address-zero : (j : ℕ) → address w 0 j ≡ false
-  unfolding address
+  unfolding address column-count
   address-zero j =
       by-lt j (length (columns w))
       (λ h. let r = column-link (getD (columns w) j []) (in-getD (columns w) j [] h) in rw (← (r .2)) (column-zero (r .0)))
-      (λ h. ap (λ (x : List Bool). getD x 0 false) (List·getD-eq-default (columns w) [] {n = j} h))
+      (past-columns 0 j)
 
   -- column j has the cards' bits j
-  column-long : (j : ℕ) → j < column-count w → length (getD (columns w) j []) ≡ w .cards
+  pub column-long : (j : ℕ) → j < column-count w → length (getD (columns w) j []) ≡ w .cards
   unfolding column-count column
   column-long j h =
       let l = column-link (getD (columns w) j []) (in-getD (columns w) j [] h) in

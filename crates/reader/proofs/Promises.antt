@@ -1,13 +1,13 @@
 -- The promises of specs/Promises.antt, proved. Assumes nothing.
 use mathlib.Core.Path.{_≡_, refl, sym, ap, _∙_, subst}
-use mathlib.Core.Bool.{Bool, true, false}
+use mathlib.Core.Bool.{true, false}
 use mathlib.Core.Logic.{_≢_}
-use mathlib.Core.List.{List, []}
+use mathlib.Core.List.{List}
 use Prim.Native.Nat.{ℕ, _+_, _*_, _-_, _/_, _%_, _≤_, _<_}
 use native.Mathlib.Nat.{mul-le-mul}
 use native.Mathlib.Omega.{arith}
 use lib.Dec.{eqb}
-use lib.ListN.{length, getD, take, drop, replicate, List·getD-eq-default}
+use lib.ListN.{length, getD, take, drop, replicate}
 use lib.Seq.{take-at, getD-take, getD-drop}
 use borrow.Author.Tests.{eq-eqb}
 use Rattle.rack.specs.Wiring.{Wiring, link-count}
@@ -15,10 +15,11 @@ use Rattle.rack.specs.Hops.{hops}
 use Rattle.rack.specs.Limits.{most-cards, most-links, lent-plan}
 use Rattle.rack.specs.WiringFile.{file-wiring, file-refusal, file-bytes}
 use Rattle.rack.specs.Bits.{number-bit}
-use Rattle.rack.specs.Columns.{columns, column-count, address}
+use Rattle.rack.specs.Columns.{column-count, address}
 use Rattle.rack.proofs.Logic.{by-bool, by-eq, by-lt}
 use Rattle.rack.proofs.Hamming.{hamming-ext}
 use Rattle.rack.proofs.Hops.{connected-all}
+use Rattle.rack.proofs.Columns.{past-columns}
 use Rattle.rack.proofs.Accepted.{Accepted, wiring-accepted, accepted-inside, file-clear, clear-file}
 use Rattle.rack.proofs.WiringFile.{Fits, wiring-at-cards, wiring-at-count, file-bytes-wiring, file-bytes-sized, sized-clear}
 use Rattle.planner.specs.PlanBytes.{plan-bytes}
@@ -51,10 +52,6 @@ module _ (w : Wiring) (links-fit : link-count w < 65536) (columns-fit : column-c
         bits-value-number 8 (λ i. address w c (8 * (j / 8) + i)) (j % 8) (omega arith),
         e,
       ) refl
-
-past-columns : (w : Wiring) (c j : ℕ) → column-count w ≤ j → address w c j ≡ false
-unfolding address column-count
-past-columns w c j h = ap (λ (column : List Bool). getD column c false) (List·getD-eq-default (columns w) [] h)
 
 -- A PLAN THAT WAS READ has an accepted wiring inside, and is its plan
 module _ (ps : List ℕ) (h : plan-refusal ps ≡ 0) where

@@ -22,7 +22,7 @@ use rack::plan_file::address_size;
 use rack::plan_file::address_start;
 
 // Appends `count` bytes of a plan, from `start` on, to a buffer that is written up to `at`.
-fn copy_part(plan: &[u8], start: usize, count: usize, output: &mut [u8], at: usize)
+pub fn copy_part(plan: &[u8], start: usize, count: usize, output: &mut [u8], at: usize)
     requires { ⌜ (start + count ≤ length (now plan)) × (at + count ≤ length (now output)) ⌝ }
     ensures { λ _. ⌜ Appends at (now (output .entry)) (now (output .exit)) (take count (drop start (now (plan .entry)))) ⌝ }
 {
