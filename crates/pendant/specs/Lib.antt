@@ -1,0 +1,2 @@
+pub mod Pendant
+pub mod Promises
