@@ -1,0 +1,3 @@
+pub mod AddressRows
+pub mod CopiedEnds
+pub mod Searching
