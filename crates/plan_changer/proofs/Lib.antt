@@ -1,0 +1,3 @@
+pub mod ChangedBytes
+pub mod Refused
+pub mod Answers
