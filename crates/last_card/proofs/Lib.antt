@@ -1,0 +1,6 @@
+pub mod PlanParts
+pub mod ChangedPlans
+pub mod Refusals
+pub mod Planned
+pub mod Promises
+pub mod Answers
