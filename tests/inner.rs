@@ -1,6 +1,6 @@
 //! Compares the calls of libtest_calls.a with the second implementation: `inner [SEED] [ROUNDS]`.
 //! A round plans and lists a rack and faulty files, makes calls on its plan, on damaged ones and on one made up, steps over the
-//! rack's links, and lets its cards confer.
+//! rack's links, lets its cards confer, and hangs a card on them.
 
 #[allow(dead_code)]
 mod conference;
@@ -11,7 +11,12 @@ mod drawn;
 mod faults;
 mod inner_both;
 mod inner_calls;
+mod inner_changes;
+mod inner_lent;
+mod inner_named;
 mod inner_second;
+#[allow(dead_code)]
+mod last_card;
 #[allow(dead_code)]
 mod racks;
 #[allow(dead_code)]
@@ -19,7 +24,9 @@ mod second;
 
 use drawn::{some_card, some_count, some_length};
 use faults::{plans, wirings};
-use inner_both::{Both, Call, Lengths, Name, NAMES};
+use inner_both::{Both, Call, Name, NAMES};
+use inner_changes::{change_damaged, change_plan};
+use inner_lent::Lengths;
 use racks::kinds::SHAPES;
 use racks::Rng;
 use second::columns::column_numbers;
@@ -45,6 +52,10 @@ fn main() {
     let seed = numbers.next().unwrap_or(SEED);
     let given_rounds = numbers.next();
     let rounds = given_rounds.unwrap_or(ROUNDS);
+    let mut cases = Both::new(seed);
+    inner_named::check(&mut cases);
+    println!("named cases: {} calls agree", cases.calls());
+
     let mut both = Both::new(seed);
     let mut rng = Rng::new(seed);
     for round in 0..rounds {
@@ -84,10 +95,15 @@ fn report(both: &Both, rounds: u64) {
         "of several columns crossed, by steps {}, by walks that were stuck {}; only spare bits differ {}",
         columns.step, columns.stuck_walk, columns.spare
     );
+    let changes = &both.changes;
+    println!(
+        "addresses a byte longer {}, shorter {}; taken off by a link from the last card {}",
+        changes.wider, changes.narrower, changes.turned
+    );
 }
 
 /// Every number that a call can be answered with was met and no other, every end of steps, walks and conferences, and each kind of
-/// `Columns`.
+/// `Columns` and `Changes`.
 fn check_reach(both: &Both) {
     for name in NAMES {
         for (number, &count) in both.seen[name as usize].iter().enumerate() {
@@ -104,6 +120,10 @@ fn check_reach(both: &Both) {
     let columns = &both.columns;
     if [columns.step, columns.stuck_walk, columns.spare].contains(&0) {
         stop("FAILED: never did several columns differ on a way, or only spare bits of two cards");
+    }
+    let changes = &both.changes;
+    if [changes.wider, changes.narrower, changes.turned].contains(&0) {
+        stop("FAILED: never did a card more or less change the bytes of an address, or a link from the last card go");
     }
     if both.calls() < FEWEST_CALLS {
         stop(&format!(
@@ -126,9 +146,11 @@ fn run_round(both: &mut Both, rng: &mut Rng) {
         follow_plan(both, rng, &plan, 50);
         cross_links(both, rng, &planned.wiring, &plan);
         confer(both, rng, &plan);
+        change_plan(both, rng, &plan);
         for _ in 0..4 {
             let damaged = plans::damaged_plan(rng, &plan);
             follow_plan(both, rng, &damaged, 15);
+            change_damaged(both, rng, &damaged);
         }
     }
     let made_up = plans::made_up_plan(rng);
@@ -187,7 +209,8 @@ fn cross_links(both: &mut Both, rng: &mut Rng, wiring: &Wiring, plan: &[u8]) {
                 third: 0,
                 counts: [0; 2],
             };
-            let fields = both.call(call, plan, name.lengths());
+            let answer = both.call(call, plan, name.lengths());
+            let fields = answer.lent.fields.items();
             if fields[before..] != [1, numbers[link] as u32] {
                 stop(&format!(
                     "FAILED: {name:?} {from} {goal}: {fields:?}, and link {link} has column {}",

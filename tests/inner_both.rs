@@ -1,11 +1,15 @@
 //! One call made on libtest_calls.a and on the second implementation, and all that they hand back compared.
 
+use crate::inner_lent::{Lengths, Lents};
 use crate::racks::Rng;
+use crate::second::columns::{bytes_differ, many_columns};
+use crate::second::plans::Layout;
+use crate::second::PLAN_BYTES;
 use crate::{inner_calls, inner_second};
 
-/// Items on each side of a lent buffer that no call may touch.
-const MARGIN: usize = 16;
 const SHOWN: usize = 400;
+/// Refusals are numbered below this.
+const NUMBERS: usize = 27;
 
 #[derive(Clone, Copy, Debug, PartialEq)]
 pub enum Name {
@@ -24,9 +28,11 @@ pub enum Name {
     OpenedWalk,
     ConferenceCard,
     ConferenceCarried,
+    AddCard,
+    TakeCardOff,
 }
 
-pub const NAMES: [Name; 14] = [
+pub const NAMES: [Name; 16] = [
     Name::PlanRack,
     Name::ListingText,
     Name::CardAddress,
@@ -41,6 +47,8 @@ pub const NAMES: [Name; 14] = [
     Name::OpenedWalk,
     Name::ConferenceCard,
     Name::ConferenceCarried,
+    Name::AddCard,
+    Name::TakeCardOff,
 ];
 
 /// What a call answers.
@@ -54,15 +62,7 @@ pub enum Kind {
     Step,
     Walk,
     Conference,
-}
-
-/// How many items are lent for words, for bytes (hops or text), for cards met, and for the answer's fields.
-#[derive(Clone, Copy, Debug, PartialEq)]
-pub struct Lengths {
-    pub words: usize,
-    pub bytes: usize,
-    pub met: usize,
-    pub fields: usize,
+    NewPlan,
 }
 
 impl Name {
@@ -76,6 +76,7 @@ impl Name {
             Name::StepFrame | Name::StepCarried | Name::OpenedStep => Kind::Step,
             Name::WalkFrame | Name::WalkCarried | Name::OpenedWalk => Kind::Walk,
             Name::ConferenceCard | Name::ConferenceCarried => Kind::Conference,
+            Name::AddCard | Name::TakeCardOff => Kind::NewPlan,
         }
     }
 
@@ -88,6 +89,7 @@ impl Name {
             Kind::Step => [0, 0, 0, 5],
             Kind::Walk => [0, 0, 256, 6],
             Kind::Conference => [0, 0, 0, 2],
+            Kind::NewPlan => [0, PLAN_BYTES, 0, 1],
         };
         Lengths {
             words,
@@ -107,12 +109,14 @@ impl Name {
             Kind::Places | Kind::Step => &[0, 1, 12, 14],
             Kind::Walk => &[0, 1, 12, 14, 15],
             Kind::Conference => &[0, 1, 12, 13, 14],
+            Kind::NewPlan if self == Name::AddCard => &[0, 1, 12, 13, 14, 16],
+            Kind::NewPlan => &[0, 1, 12, 13, 17],
         }
     }
 }
 
 /// A call and its numbers; each call takes those that it has. An address is that of card `from`; places are those of `from` and
-/// `goal`; a conference is of `from`, `goal` and `third`.
+/// `goal`; a conference is of `from`, `goal` and `third`; a new card hangs on card `from`.
 #[derive(Clone, Copy, Debug)]
 pub struct Call {
     pub name: Name,
@@ -121,67 +125,6 @@ pub struct Call {
     pub goal: u32,
     pub third: u32,
     pub counts: [u32; 2],
-}
-
-/// A lent buffer between its margins.
-#[derive(Clone, PartialEq)]
-pub struct Lent<T>(Vec<T>);
-
-impl<T> Lent<T> {
-    fn noise(rng: &mut Rng, len: usize, item: fn(u64) -> T) -> Lent<T> {
-        Lent((0..len + 2 * MARGIN).map(|_| item(rng.draw())).collect())
-    }
-
-    pub fn items(&self) -> &[T] {
-        &self.0[MARGIN..self.0.len() - MARGIN]
-    }
-
-    pub fn items_mut(&mut self) -> &mut [T] {
-        let end = self.0.len() - MARGIN;
-        &mut self.0[MARGIN..end]
-    }
-}
-
-impl<T: PartialEq + std::fmt::Debug> Lent<T> {
-    /// Where two buffers differ first; a place before 0 or behind the end is in a margin.
-    fn difference(&self, other: &Lent<T>, name: &str) -> Option<String> {
-        let at = self.0.iter().zip(&other.0).position(|(x, y)| x != y)?;
-        let (place, x, y) = (at as i64 - MARGIN as i64, &self.0[at], &other.0[at]);
-        Some(format!("{name} {place}: library {x:?}, second {y:?}\n"))
-    }
-}
-
-/// All that is lent to a call, and the part of its input that it handed out: how far in it begins, and its length.
-#[derive(Clone, PartialEq)]
-pub struct Lents {
-    pub words: Lent<u64>,
-    pub bytes: Lent<u8>,
-    pub met: Lent<u16>,
-    pub fields: Lent<u32>,
-    pub part: Option<(usize, usize)>,
-}
-
-impl Lents {
-    fn noise(rng: &mut Rng, lengths: Lengths) -> Lents {
-        Lents {
-            words: Lent::noise(rng, lengths.words, |x| x),
-            bytes: Lent::noise(rng, lengths.bytes, |x| x as u8),
-            met: Lent::noise(rng, lengths.met, |x| x as u16),
-            fields: Lent::noise(rng, lengths.fields, |x| x as u32),
-            part: None,
-        }
-    }
-
-    fn differences(&self, other: &Lents) -> String {
-        let places = [
-            self.words.difference(&other.words, "word"),
-            self.bytes.difference(&other.bytes, "byte"),
-            self.met.difference(&other.met, "card met"),
-            self.fields.difference(&other.fields, "field"),
-        ];
-        let places: String = places.into_iter().flatten().collect();
-        format!("{places}parts: {:?}, {:?}\n", self.part, other.part)
-    }
 }
 
 /// How often two cards had equal addresses with other spare bits, and a step, or a walk that was stuck, crossed one of several
@@ -193,13 +136,28 @@ pub struct Columns {
     pub stuck_walk: u64,
 }
 
+/// How often a card more made addresses of some bytes a byte longer, a card less made them shorter again, and the link that was
+/// taken off led from the last card.
+#[derive(Default)]
+pub struct Changes {
+    pub wider: u64,
+    pub narrower: u64,
+    pub turned: u64,
+}
+
+/// What both sides answered and left in what was lent.
+pub struct Answer {
+    pub number: u32,
+    pub lent: Lents,
+}
+
 /// Makes calls and counts the numbers of their answers.
 pub struct Both {
     seed: u64,
     pub round: u64,
     noise: Rng,
     /// For each call, how often each number was the answer.
-    pub seen: [[u64; 16]; NAMES.len()],
+    pub seen: [[u64; NUMBERS]; NAMES.len()],
     /// How often a step was stuck, had arrived, or went over a link.
     pub outcomes: [u64; 3],
     /// How often a walk was stuck, or arrived.
@@ -207,6 +165,7 @@ pub struct Both {
     /// How often a conference had no card, or one.
     pub conferences: [u64; 2],
     pub columns: Columns,
+    pub changes: Changes,
     known: inner_second::Known,
 }
 
@@ -221,6 +180,7 @@ impl Both {
             ends: [0; 2],
             conferences: [0; 2],
             columns: Default::default(),
+            changes: Default::default(),
             known: Default::default(),
         }
     }
@@ -229,8 +189,8 @@ impl Both {
         self.seen.iter().flatten().sum()
     }
 
-    /// Makes a call on both sides; the fields that they agree in.
-    pub fn call(&mut self, call: Call, input: &[u8], lengths: Lengths) -> Vec<u32> {
+    /// Makes a call on both sides; the answer that they agree in.
+    pub fn call(&mut self, call: Call, input: &[u8], lengths: Lengths) -> Answer {
         let mut ours = Lents::noise(&mut self.noise, lengths);
         let mut theirs = ours.clone();
         let lent_input = input.to_vec();
@@ -256,7 +216,7 @@ impl Both {
         if number == 0 {
             self.count(&call, input, &ours);
         }
-        ours.fields.items().to_vec()
+        Answer { number, lent: ours }
     }
 
     /// Counts a call that was not refused.
@@ -265,23 +225,35 @@ impl Both {
         let from = call.from as usize;
         match call.name.kind() {
             Kind::Places if fields[0] == 0 => {
-                let spare = inner_second::bytes_differ(input, from, call.goal as usize);
+                let spare = bytes_differ(input, from, call.goal as usize);
                 self.columns.spare += u64::from(spare);
             }
             Kind::Step => {
                 self.outcomes[fields[0]] += 1;
-                let many = fields[0] == 2 && inner_second::many_columns(input, from, fields[2]);
+                let many = fields[0] == 2 && many_columns(input, from, fields[2]);
                 self.columns.step += u64::from(many);
             }
             Kind::Walk => {
                 self.ends[fields[0]] += 1;
                 let second = usize::from(lent.met.items()[1]);
                 let stuck = fields[0] == 0 && fields[1] > 0;
-                let many = stuck && inner_second::many_columns(input, from, second);
+                let many = stuck && many_columns(input, from, second);
                 self.columns.stuck_walk += u64::from(many);
             }
             Kind::Conference => self.conferences[fields[0]] += 1,
+            Kind::NewPlan => self.count_change(input, &lent.bytes.items()[..fields[0]]),
             _ => {}
         }
+    }
+
+    fn count_change(&mut self, old: &[u8], new: &[u8]) {
+        let (Ok(old), Ok(new)) = (Layout::new(old), Layout::new(new)) else {
+            return;
+        };
+        let [before, after] = [&old, &new].map(|plan| plan.columns.div_ceil(8));
+        self.changes.wider += u64::from(0 < before && before < after);
+        self.changes.narrower += u64::from(0 < after && after < before);
+        let turned = old.wiring().links.last().is_some_and(|(p, q)| p > q);
+        self.changes.turned += u64::from(turned && new.cards < old.cards);
     }
 }

@@ -2,7 +2,9 @@
 
 use crate::conference::test_conference_card;
 use crate::crossing::{test_step_frame, test_walk_frame};
-use crate::inner_both::{Call, Kind, Lents, Name};
+use crate::inner_both::{Call, Kind, Name};
+use crate::inner_lent::Lents;
+use crate::last_card::{test_add_card, test_take_card_off};
 
 /// A slice as the library hands it out.
 #[repr(C)]
@@ -132,6 +134,7 @@ pub fn ask(call: &Call, input: &[u8], lent: &mut Lents) -> u32 {
         Kind::Address => address(call, input, lent),
         Kind::Sizes | Kind::Places | Kind::Step | Kind::Conference => fields(call, input, lent),
         Kind::Walk => walk(call, input, lent),
+        Kind::NewPlan => new_plan(call, input, lent),
     }
 }
 
@@ -223,6 +226,21 @@ fn walk(call: &Call, plan: &[u8], lent: &mut Lents) -> u32 {
             Name::OpenedWalk => test_opened_walk(
                 start, long, from, goal, frames, hops, met, met_len, fields, count,
             ),
+            name => not_of_its_kind(name),
+        }
+    }
+}
+
+fn new_plan(call: &Call, plan: &[u8], lent: &mut Lents) -> u32 {
+    let (start, long) = (plan.as_ptr(), plan.len());
+    let output = lent.bytes.items_mut();
+    let (output, room) = (output.as_mut_ptr(), output.len());
+    let fields = lent.fields.items_mut();
+    let (fields, count) = (fields.as_mut_ptr(), fields.len());
+    unsafe {
+        match call.name {
+            Name::AddCard => test_add_card(start, long, call.from, output, room, fields, count),
+            Name::TakeCardOff => test_take_card_off(start, long, output, room, fields, count),
             name => not_of_its_kind(name),
         }
     }

@@ -1,17 +1,22 @@
 //! What the calls of libtest_calls.a mean, by the rules alone, over the second implementation.
 
-use crate::inner_both::{Call, Kind, Lents, Name};
+use crate::inner_both::{Call, Kind, Name};
+use crate::inner_lent::Lents;
 use crate::second::columns::{differing_columns, first_of};
 use crate::second::conference::Ways;
+use crate::second::last_card::Changer;
 use crate::second::listing::listing;
 use crate::second::planner::{all_hops, plan};
 use crate::second::plans::Layout;
 
 const CARDS: usize = 256;
 
-/// The last plan that was read for a conference, with its ways: many are asked of one plan.
+/// The last plan that was read for a conference, with its ways, since many are asked of one plan; and what changes plans.
 #[derive(Default)]
-pub struct Known(Option<(Vec<u8>, Ways)>);
+pub struct Known {
+    ways: Option<(Vec<u8>, Ways)>,
+    changer: Changer,
+}
 
 /// The answer's fields go into lent numbers; where these are not as many, the call is 1 and touches nothing.
 pub fn ask(known: &mut Known, call: &Call, input: &[u8], lent: &mut Lents) -> u32 {
@@ -28,6 +33,7 @@ pub fn ask(known: &mut Known, call: &Call, input: &[u8], lent: &mut Lents) -> u3
         Kind::Step => step_frame(call, input, lent),
         Kind::Walk => walk_frame(call, input, lent),
         Kind::Conference => conference(known, call, input, lent),
+        Kind::NewPlan => new_plan(&mut known.changer, call, input, lent),
     }
 }
 
@@ -234,31 +240,17 @@ fn walk_frame(call: &Call, plan: &[u8], lent: &mut Lents) -> u32 {
     0
 }
 
-/// The bytes of two addresses differ.
-pub fn bytes_differ(plan: &[u8], a: usize, b: usize) -> bool {
-    Layout::new(plan).is_ok_and(|plan| {
-        let width = plan.columns.div_ceil(8);
-        let bytes = |card: usize| &plan.addresses[card * width..][..width];
-        bytes(a) != bytes(b)
-    })
-}
-
-/// Several columns of two addresses differ.
-pub fn many_columns(plan: &[u8], a: usize, b: usize) -> bool {
-    Layout::new(plan).is_ok_and(|plan| differing_columns(&plan, a, b).len() > 1)
-}
-
 /// 12, 13, 14 of any of the three; then 1 and the card, or 0 and 0 for none.
 fn conference(known: &mut Known, call: &Call, plan: &[u8], lent: &mut Lents) -> u32 {
     put(lent, &[0, 0]);
-    let ways = match known.0.take() {
+    let ways = match known.ways.take() {
         Some((last, ways)) if last == plan => ways,
         _ => match Layout::read(plan) {
             Ok(plan) => Ways::new(&plan.wiring()),
             Err(refusal) => return refusal.number,
         },
     };
-    let (_, ways) = known.0.insert((plan.to_vec(), ways));
+    let (_, ways) = known.ways.insert((plan.to_vec(), ways));
     let three = [call.from, call.goal, call.third].map(|card| card as usize);
     if three.iter().any(|&card| card >= ways.cards()) {
         return 14;
@@ -269,4 +261,26 @@ fn conference(known: &mut Known, call: &Call, plan: &[u8], lent: &mut Lents) -> 
         _ => panic!("{three:?} have two conference cards"),
     }
     0
+}
+
+/// The new plan with zeros behind it, and its length. With a refusal the bytes stay as they were.
+fn new_plan(changer: &mut Changer, call: &Call, plan: &[u8], lent: &mut Lents) -> u32 {
+    put(lent, &[0]);
+    let output = lent.bytes.items_mut();
+    if output.len() != call.name.lengths().bytes {
+        return 1;
+    }
+    let new = match call.name {
+        Name::AddCard => changer.add_card(plan, call.from as usize),
+        _ => changer.take_card_off(plan),
+    };
+    match new {
+        Ok(new) => {
+            output.fill(0);
+            output[..new.len()].copy_from_slice(&new);
+            put(lent, &[new.len()]);
+            0
+        }
+        Err(refusal) => refusal.number,
+    }
 }

@@ -17,6 +17,20 @@ pub fn first_of(columns: &[usize]) -> [usize; 2] {
     columns.first().map_or([0, 0], |&column| [1, column])
 }
 
+/// The bytes of two addresses differ.
+pub fn bytes_differ(plan: &[u8], a: usize, b: usize) -> bool {
+    Layout::new(plan).is_ok_and(|plan| {
+        let width = plan.columns.div_ceil(8);
+        let bytes = |card: usize| &plan.addresses[card * width..][..width];
+        bytes(a) != bytes(b)
+    })
+}
+
+/// Several columns of two addresses differ.
+pub fn many_columns(plan: &[u8], a: usize, b: usize) -> bool {
+    Layout::new(plan).is_ok_and(|plan| differing_columns(&plan, a, b).len() > 1)
+}
+
 /// For each link of an accepted rack the number of its column: links that split the cards alike share one, and columns are
 /// numbered by their lowest link.
 pub fn column_numbers(wiring: &Wiring) -> Vec<usize> {

@@ -1,8 +1,9 @@
-//! A second implementation of planning, plan reading, walking, columns and conference cards, written from the rules alone.
-//! The tests compare it with the calls, and the benchmark times it beside those for C.
+//! A second implementation of planning, plan reading, walking, columns, conference cards and a card more or less, written from the
+//! rules alone. The tests compare it with the calls, and the benchmark times it beside those for C.
 
 pub mod columns;
 pub mod conference;
+pub mod last_card;
 pub mod listing;
 pub mod planner;
 pub mod plans;
@@ -21,6 +22,7 @@ const MOST_COLUMNS: usize = 255;
 pub type Bits = [u64; 4];
 
 /// Why a file or call is turned back, and the link or card in fault (0 for none).
+#[derive(Clone)]
 pub struct Refusal {
     pub number: u32,
     pub at: usize,

@@ -160,6 +160,19 @@ fn addresses_match_hops(addresses: &[Bits], hops: &[Vec<u16>]) -> bool {
     })
 }
 
+impl Wiring {
+    /// The wiring file.
+    pub fn bytes(&self) -> Vec<u8> {
+        let sizes = [self.cards, self.links.len()].into_iter();
+        let firsts = self.links.iter().map(|&(p, _)| p);
+        let seconds = self.links.iter().map(|&(_, q)| q);
+        let numbers = sizes.chain(firsts).chain(seconds);
+        numbers
+            .flat_map(|number| (number as u16).to_le_bytes())
+            .collect()
+    }
+}
+
 impl Plan {
     /// The plan file.
     pub fn bytes(&self) -> Vec<u8> {

@@ -17,6 +17,7 @@ use Rattle.crossing.specs.declared.FrameWalk.{FrameWalk}
 use Rattle.crossing.specs.declared.places.FirstColumn.{FirstColumn}
 use Rattle.crossing.specs.declared.places.Places.{Places}
 use Rattle.conference.specs.declared.Conference.{Conference}
+use Rattle.plan_changer.specs.declared.NewPlan.{NewPlan}
 
 -- a struct of the number and of lent numbers, in the order of its fields
 abbrev pub answer-in : (number : ℕ) → List ℕ → Answer
@@ -46,6 +47,9 @@ frame-walk-in x ys =
 
 abbrev pub conference-in : (number : ℕ) → List ℕ → Conference
 conference-in x ys = record { number = x; found = getD ys 0 0; card = getD ys 1 0 }
+
+abbrev pub new-plan-in : (number : ℕ) → List ℕ → NewPlan
+new-plan-in x ys = record { number = x; length = getD ys 0 0 }
 
 -- just as many numbers are lent as the answer has fields, and the call says this; or not as many, and it is 1 and all that is lent is
 -- as it was

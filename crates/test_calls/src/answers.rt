@@ -1,11 +1,12 @@
 // Answers taken apart for the tests: the number is returned, the other fields go into lent numbers, in their order.
 ghost use mathlib.Core.Path.{_≡_};
 ghost use lib.ListN.{length, replicate};
-ghost use Rattle.test_calls.specs.Answers.{answer-in, conference-in, frame-step-in, frame-walk-in, places-in, sizes-in};
+ghost use Rattle.test_calls.specs.Answers.{answer-in, conference-in, frame-step-in, frame-walk-in, new-plan-in, places-in, sizes-in};
 use conference::Conference;
 use crossing::FrameStep;
 use crossing::FrameWalk;
 use crossing::places::Places;
+use plan_changer::NewPlan;
 use planner::Answer;
 use reader::layout::Sizes;
 
@@ -89,4 +90,13 @@ pub fn put_conference(r: Conference, answer: &mut [u32]) -> u32
 {
     put_fields(&[r.found, r.card], answer);
     r.number
+}
+
+// The new plan's length.
+pub fn put_new_plan(p: NewPlan, answer: &mut [u32]) -> u32
+    requires { ⌜ length (now answer) ≡ 1 ⌝ }
+    ensures { λ r. ⌜ new-plan-in r (now (answer .exit)) ≡ p ⌝ }
+{
+    put_fields(&[p.length], answer);
+    p.number
 }

@@ -6,10 +6,12 @@ ghost use Rattle.planner.specs.Planning.{Plan-says};
 ghost use Rattle.reader.specs.Reading.{Address-says, address-refusal};
 ghost use Rattle.crossing.specs.Crossing.{Frame-step-says, Frame-walk-says};
 ghost use Rattle.conference.specs.Conference.{Conference-says};
+ghost use Rattle.last_card.specs.Calls.{Add-says, Take-off-says};
 ghost use Rattle.listing_text.specs.Listing.{Listing-says};
-ghost use Rattle.test_calls.specs.Answers.{Answered, Places-say, answer-in, conference-in, counts, frame-step-in, frame-walk-in};
+ghost use Rattle.test_calls.specs.Answers.{Answered, Places-say, answer-in, conference-in, counts, frame-step-in, frame-walk-in, new-plan-in};
 use answers::put_answer;
 use answers::put_conference;
+use answers::put_new_plan;
 use answers::put_no_places;
 use answers::put_places;
 use answers::put_step;
@@ -20,6 +22,8 @@ use crossing::step_frame;
 use crossing::walk_frame;
 use forwarder::step::frame_sizes;
 use forwarder::walk::Traffic;
+use last_card::add_card;
+use last_card::take_card_off;
 use listing_text::listing_text;
 use planner::plan_rack;
 use rack::ones::ones_table;
@@ -139,4 +143,31 @@ pub extern "C" fn test_conference_card(
         return 1;
     }
     put_conference(conference_card(plan, a, b, c), answer)
+}
+
+// A card more: 1, 12, 13, 14, 16. The field is the new plan's length.
+#[no_mangle]
+pub extern "C" fn test_add_card(
+    plan: &[u8],
+    card: u32,
+    output: &mut [u8],
+    answer: &mut [u32],
+) -> u32
+    ensures { λ r. ⌜ Answered 1 r (now (answer .entry)) (now (answer .exit)) (now (output .exit) ≡ now (output .entry)) (Add-says (now (plan .entry)) card (new-plan-in r (now (answer .exit))) (now (output .entry)) (now (output .exit))) ⌝ }
+{
+    if answer.len() != 1 {
+        return 1;
+    }
+    put_new_plan(add_card(plan, card, output), answer)
+}
+
+// The last card taken off: 1, 12, 13, 17. The field is the new plan's length.
+#[no_mangle]
+pub extern "C" fn test_take_card_off(plan: &[u8], output: &mut [u8], answer: &mut [u32]) -> u32
+    ensures { λ r. ⌜ Answered 1 r (now (answer .entry)) (now (answer .exit)) (now (output .exit) ≡ now (output .entry)) (Take-off-says (now (plan .entry)) (new-plan-in r (now (answer .exit))) (now (output .entry)) (now (output .exit))) ⌝ }
+{
+    if answer.len() != 1 {
+        return 1;
+    }
+    put_new_plan(take_card_off(plan, output), answer)
 }
