@@ -15,6 +15,11 @@ use Rattle.crossing.specs.Promises.{Step-column-local, Frame-step-local}
 use Rattle.crossing.proofs.Promises as crossing
 use Rattle.conference.specs.Promises.{Between-means, Conference-promise, Conference-refused, Conference-repeated, Conference-order}
 use Rattle.conference.proofs.Promises as conference
+use Rattle.pendant.specs.Promises.{Hops-added, Columns-added, Addresses-added, Added-accepted, Off-accepted, Hangs-means, Off-undoes}
+use Rattle.pendant.proofs.Promises as pendant
+use Rattle.last_card.specs.Promises.{Add-refused, Take-off-refused, Refusals-keep, Added-is-read, Taken-off-is-read}
+use Rattle.last_card.specs.Promises.{Added-as-written, Taken-off-as-written, Taking-off-undoes}
+use Rattle.last_card.proofs.Promises as last-card
 use Rattle.opened.specs.Promises.{Carries-exactly, Opening-whole, Refused-opening-empty, Refused-opening, Other-sizes, Opened-frame-arrives}
 use Rattle.opened.specs.Promises.{Opened-step-own, Opened-walk-own, Opened-conference-own, Opened-address-own, Opened-address-refused}
 use Rattle.opened.proofs.Promises as opened
@@ -215,6 +220,59 @@ conference-repeated = conference.conference-repeated
 -- the order of the three does not matter
 pub conference-order : Conference-order
 conference-order = conference.conference-order
+
+-- with a card more on a last link: hops, columns and addresses
+pub hops-added : Hops-added
+hops-added = pendant.hops-added
+
+pub columns-added : Columns-added
+columns-added = pendant.columns-added
+
+pub addresses-added : Addresses-added
+addresses-added = pendant.addresses-added
+
+-- such a rack is accepted, and so is the one without a last card that hangs on the last link
+pub added-accepted : Added-accepted
+added-accepted = pendant.added-accepted
+
+pub off-accepted : Off-accepted
+off-accepted = pendant.off-accepted
+
+-- a last card hangs on the last link where that is its one link; a card added does, and without it the wiring is the old one
+pub hangs-means : Hangs-means
+hangs-means = pendant.hangs-means
+
+pub off-undoes : Off-undoes
+off-undoes = pendant.off-undoes
+
+-- a card more: 14 before 16, behind the plan's own numbers; the last card taken off: 17
+pub add-refused : Add-refused
+add-refused = last-card.add-refused
+
+pub take-off-refused : Take-off-refused
+take-off-refused = last-card.take-off-refused
+
+-- with every refusal the lent bytes stay
+pub refusals-keep : Refusals-keep
+refusals-keep = last-card.refusals-keep
+
+-- the new plan is read, with the changed wiring inside
+pub added-is-read : Added-is-read
+added-is-read = last-card.added-is-read
+
+pub taken-off-is-read : Taken-off-is-read
+taken-off-is-read = last-card.taken-off-is-read
+
+-- it is what the plan writer leaves for the changed wiring's file
+pub added-as-written : Added-as-written
+added-as-written = last-card.added-as-written
+
+pub taken-off-as-written : Taken-off-as-written
+taken-off-as-written = last-card.taken-off-as-written
+
+-- taking off undoes adding
+pub taking-off-undoes : Taking-off-undoes
+taking-off-undoes = last-card.taking-off-undoes
 
 -- an opened plan's calls see its bytes exactly if they have a layout and the sizes carried are those in them
 pub carries-exactly : Carries-exactly

@@ -8,6 +8,7 @@ use Rattle.promises.specs.Claims.{hex, Case, rack, file-of, plan-of}
 use Rattle.promises.specs.Claims.{file-is, refused, addresses, lists, plan-size, plan-is, read-as, walks, stuck, walk-answers}
 use Rattle.promises.specs.Claims.{gets-stuck, differ-in, differ-nowhere, crosses, crosses-none, column-is}
 use Rattle.promises.specs.Claims.{confers, confers-nowhere, conference-answers}
+use Rattle.promises.specs.Claims.{adds, takes-off, adding-answers, taking-off-answers, adding-refused}
 
 unfoldable pub ring-of-four : List Link
 ring-of-four = link 0 1 ∷ link 1 2 ∷ link 2 3 ∷ link 3 0 ∷ []
@@ -18,6 +19,17 @@ ring-of-six = link 0 1 ∷ link 1 2 ∷ link 2 3 ∷ link 3 4 ∷ link 4 5 ∷ l
 -- P5's plan; the addresses of its cards are bytes 22 to 25
 unfoldable pub ring-plan : List ℕ
 ring-plan = plan-bytes (wiring 4 ring-of-four)
+
+-- stars around card 0: of nine cards, whose addresses fill a byte, and of ten
+unfoldable pub star-of-nine-plan : List ℕ
+star-of-nine-plan =
+    hex "09 00 08 00 08 00" ++ hex "00 00 00 00 00 00 00 00 00 00 00 00 00 00 00 00" ++ hex "01 00 02 00 03 00 04 00 05 00 06 00 07 00 08 00"
+    ++ hex "00 01 02 04 08 10 20 40 80"
+
+unfoldable pub star-of-ten-plan : List ℕ
+star-of-ten-plan =
+    hex "0a 00 09 00 09 00" ++ hex "00 00 00 00 00 00 00 00 00 00 00 00 00 00 00 00 00 00"
+    ++ hex "01 00 02 00 03 00 04 00 05 00 06 00 07 00 08 00 09 00" ++ hex "00 00 01 00 02 00 04 00 08 00 10 00 20 00 40 00 80 00 00 01"
 
 -- P1 to P10, in their order
 unfoldable pub required-cases : List Case
@@ -75,12 +87,7 @@ rack-cases =
     (refused 0 0 ∷ addresses ("00" ∷ "01" ∷ "11" ∷ "10" ∷ []) ∷ [])
     ∷ rack "a star of ten: nine columns in two bytes" 10
     (link 0 1 ∷ link 0 2 ∷ link 0 3 ∷ link 0 4 ∷ link 0 5 ∷ link 0 6 ∷ link 0 7 ∷ link 0 8 ∷ link 0 9 ∷ [])
-    (refused 0 0
-    ∷ plan-is
-    (hex "0a 00 09 00 09 00" ++ hex "00 00 00 00 00 00 00 00 00 00 00 00 00 00 00 00 00 00"
-    ++ hex "01 00 02 00 03 00 04 00 05 00 06 00 07 00 08 00 09 00"
-    ++ hex "00 00 01 00 02 00 04 00 08 00 10 00 20 00 40 00 80 00 00 01")
-    ∷ read-as 0 ∷ [])
+    (refused 0 0 ∷ plan-is star-of-ten-plan ∷ read-as 0 ∷ [])
     ∷ rack "one column" 2 (link 0 1 ∷ [])
     (refused 0 0 ∷ plan-is (hex "02 00 01 00 01 00 00 00 01 00 00 01") ∷ lists "cards 2\nlinks 1\ncolumns 1\ncard 0 0\ncard 1 1\n" ∷ [])
     ∷ []
@@ -151,5 +158,31 @@ conference-cases =
     ∷ plan-of "no layout and no card 4: 12 before 13 and 14" (take 25 ring-plan) (conference-answers 4 4 4 12 ∷ [])
     ∷ []
 
+-- a card more and the last card taken off: the planner's bytes, and 1, 12 to 14, 16 and 17, the first that applies
+unfoldable pub last-card-cases : List Case
+last-card-cases =
+    rack "P1 with a card more; its only card stays" 1 []
+    (adds 0 (hex "02 00 01 00 01 00 00 00 01 00 00 01") ∷ adding-answers 1 16390 14 ∷ taking-off-answers 16390 17 ∷ [])
+    ∷ rack "P4 without its last card, and with one more" 3 (link 0 1 ∷ link 1 2 ∷ [])
+    (takes-off (hex "02 00 01 00 01 00 00 00 01 00 00 01")
+    ∷ adds 1 (hex "04 00 03 00 03 00" ++ hex "00 00 01 00 01 00 01 00 02 00 03 00" ++ hex "00 01 03 05") ∷ [])
+    ∷ plan-of "P5 with a card at 2; its last card has two links" ring-plan
+    (adds 2 (hex "05 00 05 00 03 00" ++ hex "00 00 01 00 02 00 03 00 02 00 01 00 02 00 03 00 00 00 04 00" ++ hex "00 01 03 02 07")
+    ∷ taking-off-answers 16390 17 ∷ [])
+    ∷ rack "two cards, the link drawn from the last" 2 (link 1 0 ∷ []) (takes-off (hex "01 00 00 00 00 00") ∷ [])
+    ∷ rack "the last card's one link is not the last link" 3 (link 0 2 ∷ link 0 1 ∷ []) (taking-off-answers 16390 17 ∷ [])
+    ∷ plan-of "a star of nine with a card more: addresses of two bytes" star-of-nine-plan (adds 0 star-of-ten-plan ∷ [])
+    ∷ plan-of "a star of ten without its last card: addresses of one byte" star-of-ten-plan (takes-off star-of-nine-plan ∷ [])
+    ∷ plan-of "another length lent: 1 before 14 and 17" ring-plan
+    (adding-answers 4 16389 1 ∷ adding-answers 4 16391 1 ∷ taking-off-answers 16389 1 ∷ taking-off-answers 16391 1 ∷ [])
+    ∷ plan-of "no layout and no card 4: 1 before 12, 12 before 14 and 17" (take 25 ring-plan)
+    (adding-answers 4 0 1 ∷ taking-off-answers 0 1 ∷ adding-answers 4 16390 12 ∷ taking-off-answers 16390 12 ∷ [])
+    ∷ plan-of "P10's plan and no card 4: 13 before 14 and 17" (set ring-plan 24 0) (adding-answers 4 16390 13 ∷ taking-off-answers 16390 13 ∷ [])
+    ∷ plan-of "256 cards, or 2,048 links: 14 before 16" []
+    (adding-refused 0 256 255 256 14 ∷ adding-refused 0 256 255 255 16 ∷ adding-refused 0 255 2048 254 16 ∷ adding-refused 0 255 2048 255 14
+    ∷ adding-refused 13 256 255 255 13 ∷ adding-refused 0 255 2047 254 0 ∷ [])
+    ∷ []
+
 unfoldable pub cases : List Case
-cases = required-cases ++ size-cases ++ link-cases ++ rack-cases ++ plan-cases ++ call-cases ++ crossing-cases ++ conference-cases
+cases =
+    required-cases ++ size-cases ++ link-cases ++ rack-cases ++ plan-cases ++ call-cases ++ crossing-cases ++ conference-cases ++ last-card-cases

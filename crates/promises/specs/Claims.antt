@@ -5,6 +5,7 @@ use Prim.Native.Nat.{ℕ, _+_, _*_, _-_}
 use Prim.Native.String.{String}
 use lib.Dec.{ltb, eqb}
 use lib.ListN.{length}
+use Rattle.rack.specs.Limits.{lent-plan}
 use Rattle.rack.specs.Lists.{all, filter, tabulate, same}
 use Rattle.rack.specs.Wiring.{Link, wiring, link-at}
 use Rattle.rack.specs.WiringFile.{file-bytes, file-wiring, file-refusal}
@@ -17,6 +18,9 @@ use Rattle.forwarder.specs.Calls.{lent-met, walk-hops, walk-refusal}
 use Rattle.crossing.specs.Differing.{plan-differing, column-number}
 use Rattle.crossing.specs.Crossing.{step-column, walk-column}
 use Rattle.conference.specs.Conference.{conference, conference-refusal}
+use Rattle.pendant.specs.Pendant.{with-card, without-card}
+use Rattle.plan_changer.specs.Changing.{add-refusal}
+use Rattle.last_card.specs.Calls.{add-card-refusal, take-off-refusal}
 use Rattle.text.specs.Codes.{codes}
 use Rattle.listing_text.specs.Listing.{column-digit, listing}
 
@@ -66,6 +70,14 @@ pub data Claim : Type 0 where
   confers : (a b c : ℕ) → (card : ℕ) → Claim
   confers-nowhere : (a b c : ℕ) → Claim
   conference-answers : (a b c : ℕ) → (number : ℕ) → Claim
+  -- with a card more on this card the plan is this; without its last card
+  adds : (card : ℕ) → (new : List ℕ) → Claim
+  takes-off : (new : List ℕ) → Claim
+  -- a card more, and the last card taken off, into so many lent bytes, is answered with this number
+  adding-answers : (card room number : ℕ) → Claim
+  taking-off-answers : (room number : ℕ) → Claim
+  -- so is a card more on a plan whose reading gave a number, n and m
+  adding-refused : (before n m : ℕ) → (card number : ℕ) → Claim
 
 -- a walk ended so, after so many hops, with these cards met
 unfoldable pub ends-so : (arrived hops : ℕ) → (met : List ℕ) → Walk → Bool
@@ -94,6 +106,11 @@ claim-holds bs ps (confers a b c x) =
     eqb (conference-refusal ps a b c) 0 && ltb x (plan-cards ps) && eqb (conference (plan-wiring ps) a b c) x
 claim-holds bs ps (confers-nowhere a b c) = eqb (conference-refusal ps a b c) 0 && eqb (conference (plan-wiring ps) a b c) (plan-cards ps)
 claim-holds bs ps (conference-answers a b c n) = eqb (conference-refusal ps a b c) n
+claim-holds bs ps (adds c new) = eqb (add-card-refusal ps c lent-plan) 0 && same eqb (plan-bytes (with-card (plan-wiring ps) c)) new
+claim-holds bs ps (takes-off new) = eqb (take-off-refusal ps lent-plan) 0 && same eqb (plan-bytes (without-card (plan-wiring ps))) new
+claim-holds bs ps (adding-answers c room n) = eqb (add-card-refusal ps c room) n
+claim-holds bs ps (taking-off-answers room n) = eqb (take-off-refusal ps room) n
+claim-holds bs ps (adding-refused x n m c number) = eqb (add-refusal x n m c) number
 
 -- ROWS: a name, a wiring file, a plan file, and claims of the two
 pub data Case : Type 0 where
