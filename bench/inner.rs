@@ -9,6 +9,10 @@ mod conferences;
 #[path = "../tests/crossing.rs"]
 mod crossing;
 mod crossings;
+mod growing;
+#[path = "../tests/last_card.rs"]
+mod last_card;
+mod last_cards;
 #[allow(dead_code)]
 mod measured;
 #[allow(dead_code)]
@@ -22,4 +26,6 @@ fn main() {
     crossings::print_table();
     println!();
     conferences::print_table();
+    println!();
+    last_cards::print_table();
 }

@@ -1,10 +1,15 @@
-//! Counts the instructions of the C calls, of steps and walks with their columns, and of conferences, on what the benchmark times.
+//! Counts the instructions of the C calls, of steps and walks with their columns, of conferences, and of a card more or less, on what
+//! the benchmark times.
 //! `cost` makes the calls, for callgrind to count.
 //! `cost FOLDER LIMITS` reads what was counted and holds it to a table of limits; with `--set` it writes the table.
 
 mod calls;
 mod conference;
+mod cost_table;
 mod crossing;
+#[path = "../bench/growing.rs"]
+mod growing;
+mod last_card;
 #[allow(dead_code)]
 #[path = "../bench/measured.rs"]
 mod measured;
@@ -13,11 +18,13 @@ mod racks;
 #[allow(dead_code)]
 mod second;
 
+use cost_table::{check, set, Row, COLUMNS};
+use growing::{Growing, Output};
 use measured::{Frame, Measured};
-use second::{MET_BYTES, RECORD_BYTES};
+use second::{MET_BYTES, PLAN_BYTES, RECORD_BYTES};
 use std::fs;
 
-/// What a call is made for: the columns of the table, and a call before a conference that ends where its search begins.
+/// What a call is made for: the columns of the table, and calls refused with 14, which read the plan and do no more.
 #[derive(Clone, Copy)]
 enum Kind {
     Planning,
@@ -27,19 +34,11 @@ enum Kind {
     StepFrame,
     WalkFrame,
     Conference,
-    Refused,
+    AddCard,
+    TakeOff,
+    RefusedConference,
+    RefusedAdding,
 }
-
-const COLUMNS: usize = 7;
-const KINDS: [&str; COLUMNS] = [
-    "planning",
-    "reading",
-    "step",
-    "walk",
-    "step_frame",
-    "walk_frame",
-    "conference",
-];
 
 impl Kind {
     fn call(self) -> &'static str {
@@ -49,16 +48,11 @@ impl Kind {
             Kind::Step | Kind::Walk => "jolvente_walk",
             Kind::StepFrame => "test_step_frame",
             Kind::WalkFrame => "test_walk_frame",
-            Kind::Conference | Kind::Refused => "test_conference_card",
+            Kind::Conference | Kind::RefusedConference => "test_conference_card",
+            Kind::AddCard | Kind::RefusedAdding => "test_add_card",
+            Kind::TakeOff => "test_take_card_off",
         }
     }
-}
-
-/// A row of the table, in thousands of instructions.
-#[derive(Clone)]
-struct Row {
-    name: String,
-    cells: [Option<f64>; COLUMNS],
 }
 
 fn stop(message: &str) -> ! {
@@ -107,6 +101,12 @@ fn make_calls() -> Made {
     let walks = [measured::chain_behind_others()];
     walk(Kind::Walk, &walks, &mut made);
     walk_frame(&walks, &mut made);
+    for growing in growing::racks_of_255() {
+        let Growing { less, more, .. } = &growing;
+        let (add, take_off) = (Growing::add, Growing::take_off);
+        change(&growing, Kind::AddCard, [less, more], add, &mut made);
+        change(&growing, Kind::TakeOff, [more, less], take_off, &mut made);
+    }
     made
 }
 
@@ -155,7 +155,7 @@ fn walk_frame(frames: &[Frame], made: &mut Made) {
 fn confer(measured: &Measured, plan: &[u8], made: &mut Made) {
     let worst = measured.worst_conference(plan);
     for (kind, three, answer) in [
-        (Kind::Refused, worst.refused, [14, 0, 0]),
+        (Kind::RefusedConference, worst.refused, [14, 0, 0]),
         (Kind::Conference, worst.three, worst.answer),
     ] {
         made.push((measured.name, kind));
@@ -164,20 +164,33 @@ fn confer(measured: &Measured, plan: &[u8], made: &mut Made) {
     }
 }
 
+type Change = fn(&Growing, &mut Output) -> (u32, usize);
+
+/// As of a conference, what the call takes beside reading is the difference.
+fn change(growing: &Growing, kind: Kind, [old, new]: [&[u8]; 2], call: Change, made: &mut Made) {
+    let (name, output) = (growing.name, &mut [0; PLAN_BYTES]);
+    read(name, old, 0, made);
+    made.push((name, Kind::RefusedAdding));
+    assert_eq!(growing::refused(old, output), (14, 0), "refused: {name}");
+    made.push((name, kind));
+    let (number, length) = call(growing, output);
+    assert_eq!((number, &output[..length]), (0, new), "change: {name}");
+}
+
 /// The highest count of each row and kind. Callgrind leaves one file for each call, numbered from 1.
 fn read_counts(folder: &str, made: &[(&str, Kind)]) -> Vec<Row> {
     let mut rows: Vec<Row> = Vec::new();
-    let mut refused = 0.0;
+    let mut before = 0.0;
     for (place, &(name, kind)) in made.iter().enumerate() {
-        let mut count = read_count(&format!("{folder}/count.{}", place + 1), kind);
-        match kind {
-            Kind::Refused => {
-                check_reading(rows.last(), count);
-                refused = count;
-                continue;
-            }
-            Kind::Conference => count -= refused,
-            _ => {}
+        let whole = read_count(&format!("{folder}/count.{}", place + 1), kind);
+        let count = match kind {
+            Kind::Conference | Kind::AddCard | Kind::TakeOff => whole - before,
+            _ => whole,
+        };
+        before = whole;
+        if let Kind::RefusedConference | Kind::RefusedAdding = kind {
+            check_reading(rows.last(), count);
+            continue;
         }
         if rows.last().is_none_or(|row| row.name != name) {
             let name = name.to_string();
@@ -196,14 +209,14 @@ fn read_counts(folder: &str, made: &[(&str, Kind)]) -> Vec<Row> {
     rows
 }
 
-/// A refused conference takes what reading the same plan takes, but for a tenth.
+/// A refused call takes what reading the same plan takes, but for a tenth.
 fn check_reading(row: Option<&Row>, refused: f64) {
     let name = row.map_or("", |row| &row.name);
     let reading = row.and_then(|row| row.cells[Kind::Reading as usize]);
     let reading = reading.unwrap_or_default();
     if refused > 1.1 * reading {
         stop(&format!(
-            "{name}: reading took {reading:.1}, a refused conference {refused:.1}"
+            "{name}: reading took {reading:.1}, a refused call {refused:.1}"
         ));
     }
 }
@@ -218,79 +231,5 @@ fn read_count(path: &str, kind: Kind) -> f64 {
     match count {
         Some(count) if count > 0 && call == Some(kind.call()) => count as f64 / 1e3,
         _ => stop(&format!("{path} has no count of {}", kind.call())),
-    }
-}
-
-fn table(rows: &[Row]) -> String {
-    let line = |name: &str, cells: [String; COLUMNS]| {
-        let cells: String = cells.iter().map(|cell| format!("{cell:>11}")).collect();
-        format!("{name:<48}{cells}\n")
-    };
-    let cell = |cell: Option<f64>| cell.map_or("-".to_string(), |count| format!("{count:.1}"));
-    let lines = rows.iter().map(|row| line(&row.name, row.cells.map(cell)));
-    line("# thousands of instructions", KINDS.map(str::to_string)) + &lines.collect::<String>()
-}
-
-fn read_table(path: &str) -> Vec<Row> {
-    let Ok(text) = fs::read_to_string(path) else {
-        stop(&format!("{path} cannot be read"));
-    };
-    let lines = text.lines().filter(|line| !line.starts_with('#'));
-    lines
-        .map(|line| read_row(line).unwrap_or_else(|| stop(&format!("{path}: not a row: {line}"))))
-        .collect()
-}
-
-/// A name, and a cell for each column, a number or `-`.
-fn read_row(line: &str) -> Option<Row> {
-    let words: Vec<&str> = line.split_whitespace().collect();
-    let (name, cells) = words.split_at_checked(words.len().checked_sub(COLUMNS)?)?;
-    let mut row = Row {
-        name: name.join(" "),
-        cells: [None; COLUMNS],
-    };
-    for (cell, word) in row.cells.iter_mut().zip(cells) {
-        if *word != "-" {
-            *cell = Some(word.parse().ok().filter(|limit: &f64| limit.is_finite())?);
-        }
-    }
-    Some(row)
-}
-
-/// Prints the counts, and fails if one of them is above its limit.
-fn check(rows: &[Row], path: &str) {
-    print!("{}", table(rows));
-    let limits = read_table(path);
-    let filled = |row: &Row| (row.name.clone(), row.cells.map(|cell| cell.is_some()));
-    if !rows.iter().map(filled).eq(limits.iter().map(filled)) {
-        stop(&format!(
-            "{path} has other rows or cells; 'tests/cost --set' writes it"
-        ));
-    }
-    let mut above = Vec::new();
-    for (row, limit) in rows.iter().zip(&limits) {
-        let cells = row.cells.iter().zip(&limit.cells).zip(KINDS);
-        let cells = cells.filter(|((count, limit), _)| count > limit);
-        above.extend(cells.map(|((count, limit), kind)| (&row.name, kind, *count, *limit)));
-    }
-    for (name, kind, count, limit) in &above {
-        let [count, limit] = [count, limit].map(|cell| cell.unwrap_or_default());
-        println!("FAILED: {name}, {kind}: {count:.1} is above the limit of {limit:.1}");
-    }
-    let counts = rows.iter().flat_map(|row| row.cells).flatten().count();
-    println!("cost: {counts} counts, {} above their limits", above.len());
-    if !above.is_empty() {
-        std::process::exit(1);
-    }
-}
-
-/// Writes limits a tenth above the counts.
-fn set(rows: &[Row], path: &str) {
-    let mut limits = rows.to_vec();
-    for cell in limits.iter_mut().flat_map(|row| &mut row.cells) {
-        *cell = cell.map(|count| count * 1.1);
-    }
-    if fs::write(path, table(&limits)).is_err() {
-        stop(&format!("{path} cannot be written"));
     }
 }

@@ -1,0 +1,76 @@
+//! Racks of 255 cards that get one more, which is taken off again: what bench/last_cards.rs times and tests/cost.rs counts.
+
+use crate::last_card::{add_card, take_card_off};
+use crate::racks::{self, Rack, Rng};
+use crate::second::planner::plan;
+use crate::second::PLAN_BYTES;
+
+const SEED: u64 = 7;
+const CARDS: usize = 255;
+
+pub type Output = [u8; PLAN_BYTES];
+
+/// The plans of a rack and of the same with one more card, and the card on which that hangs.
+pub struct Growing {
+    pub name: &'static str,
+    pub less: Vec<u8>,
+    pub more: Vec<u8>,
+    card: usize,
+}
+
+impl Growing {
+    /// The number, and the new plan's length.
+    pub fn add(&self, output: &mut Output) -> (u32, usize) {
+        add_card(&self.less, self.card as u32, output)
+    }
+
+    pub fn take_off(&self, output: &mut Output) -> (u32, usize) {
+        take_card_off(&self.more, output)
+    }
+}
+
+/// Adding on the card behind the last is refused with 14: it reads the plan and does no more.
+pub fn refused(plan: &[u8], output: &mut Output) -> (u32, usize) {
+    let cards = u16::from_le_bytes([plan[0], plan[1]]);
+    add_card(plan, u32::from(cards), output)
+}
+
+/// As many links as a rack of 255 cards can have.
+fn cube_less_a_card() -> Rack {
+    let mut rack = racks::cube(8);
+    rack.cards = CARDS;
+    rack.links.retain(|&(p, q)| p < CARDS && q < CARDS);
+    rack
+}
+
+/// Cards are numbered and links ordered at random, and so is the card drawn that gets the new one.
+pub fn racks_of_255() -> Vec<Growing> {
+    let rng = &mut Rng::new(SEED);
+    let tree = racks::tree(rng, CARDS);
+    let all = [
+        ("chain of 255", racks::chain(CARDS)),
+        ("star of 255", racks::star(CARDS)),
+        ("random tree of 255", tree),
+        ("tail of 127 on a 7-cube", racks::cube(7).with_tail(127)),
+        ("grid of 15 x 17", racks::grid(15, 17)),
+        ("8-cube less a card", cube_less_a_card()),
+    ];
+    all.map(|(name, rack)| growing(name, rack.shuffled(rng), rng.below(CARDS)))
+        .into()
+}
+
+fn growing(name: &'static str, rack: Rack, card: usize) -> Growing {
+    let mut grown = rack.clone();
+    grown.links.push((card, rack.cards));
+    grown.cards += 1;
+    let [less, more] = [rack, grown].map(|rack| match plan(&rack.bytes()) {
+        Ok(planned) => planned.bytes(),
+        Err(_) => panic!("{name} is refused"),
+    });
+    Growing {
+        name,
+        less,
+        more,
+        card,
+    }
+}
