@@ -14,15 +14,10 @@ use Rattle.rack.specs.Columns.{columns, column-count, address}
 use Rattle.rack.specs.Refusals.{wiring-refusal}
 use Rattle.pendant.specs.Pendant.{with-card, without-card, last-hangs}
 
--- a card of an accepted rack
-pub record Card-of-rack (w : Wiring) (c : ℕ) : Type 0 where
-  pub inside : c < w .cards
-  pub accepted : wiring-refusal w .number ≡ 0
-
 -- old pairs keep their hops, and the new card is one hop further than the card that it hangs on
 unfoldable pub Hops-added : Type 0
 Hops-added =
-    (w : Wiring) (c a b : ℕ) → Card-of-rack w c → a < w .cards → b < w .cards →
+    (w : Wiring) (c a b : ℕ) → wiring-refusal w .number ≡ 0 → c < w .cards → a < w .cards → b < w .cards →
     (hops (with-card w c) a b ≡ hops w a b)
     × (hops (with-card w c) a (w .cards) ≡ suc (hops w a c))
     × (hops (with-card w c) (w .cards) a ≡ suc (hops w c a))
@@ -30,21 +25,21 @@ Hops-added =
 -- each column with the bit of the card that the new one hangs on, and a last column that is 1 at the new card alone
 unfoldable pub Columns-added : Type 0
 Columns-added =
-    (w : Wiring) (c : ℕ) → Card-of-rack w c →
+    (w : Wiring) (c : ℕ) → wiring-refusal w .number ≡ 0 → c < w .cards →
     columns (with-card w c) ≡ map (λ x. x ++ (getD x c false ∷ [])) (columns w) ++ ((tabulate (w .cards) (λ a. false) ++ (true ∷ [])) ∷ [])
 
 -- the addresses: a column more; those of the old cards bit for bit, past the last column too; the new card has those of the card that it
 -- hangs on, and 1 in the last column
 unfoldable pub Addresses-added : Type 0
 Addresses-added =
-    (w : Wiring) (c : ℕ) → Card-of-rack w c →
+    (w : Wiring) (c : ℕ) → wiring-refusal w .number ≡ 0 → c < w .cards →
     (column-count (with-card w c) ≡ suc (column-count w))
     × ((a j : ℕ) → a < w .cards → address (with-card w c) a j ≡ address w a j)
     × ((j : ℕ) → address (with-card w c) (w .cards) j ≡ cond (eqb j (column-count w)) true (address w c j))
 
 -- an accepted rack is accepted with a card more, and without a last card that hangs on the last link
 unfoldable pub Added-accepted : Type 0
-Added-accepted = (w : Wiring) (c : ℕ) → Card-of-rack w c → wiring-refusal (with-card w c) .number ≡ 0
+Added-accepted = (w : Wiring) (c : ℕ) → wiring-refusal w .number ≡ 0 → c < w .cards → wiring-refusal (with-card w c) .number ≡ 0
 
 unfoldable pub Off-accepted : Type 0
 Off-accepted =
@@ -59,4 +54,5 @@ Hangs-means =
 
 -- "taking off undoes adding", of wirings: the new card hangs on the last link, and without it the rack is the old one
 unfoldable pub Off-undoes : Type 0
-Off-undoes = (w : Wiring) (c : ℕ) → Card-of-rack w c → (last-hangs (with-card w c) ≡ true) × (without-card (with-card w c) ≡ w)
+Off-undoes =
+    (w : Wiring) (c : ℕ) → wiring-refusal w .number ≡ 0 → c < w .cards → (last-hangs (with-card w c) ≡ true) × (without-card (with-card w c) ≡ w)
