@@ -4,6 +4,7 @@ pub mod kinds;
 mod random;
 mod shapes;
 
+use crate::second::planner::wiring_file;
 pub use random::Rng;
 pub use shapes::{chain, cube, grid, product, ring, star, tree, two_sides};
 
@@ -27,13 +28,7 @@ impl Rack {
 
     /// The wiring file.
     pub fn bytes(&self) -> Vec<u8> {
-        let sizes = [self.cards, self.links.len()].into_iter();
-        let firsts = self.links.iter().map(|&(p, _)| p);
-        let seconds = self.links.iter().map(|&(_, q)| q);
-        let numbers = sizes.chain(firsts).chain(seconds);
-        numbers
-            .flat_map(|number| (number as u16).to_le_bytes())
-            .collect()
+        wiring_file(self.cards, &self.links)
     }
 
     /// The same rack with its cards renumbered and its links in another order, some turned round.

@@ -1,6 +1,6 @@
 //! A card more at the end of a wiring, and the last card taken off: the wiring is changed and planned anew.
 
-use super::planner::{plan, Wiring};
+use super::planner::{plan, wiring_file, Wiring};
 use super::plans::Layout;
 use super::{refuse, Refusal, MOST_CARDS, MOST_LINKS};
 
@@ -38,7 +38,7 @@ impl Changer {
     }
 
     fn plan(&mut self, wiring: &Wiring) -> Result<Vec<u8>, Refusal> {
-        let file = wiring.bytes();
+        let file = wiring_file(wiring.cards, &wiring.links);
         let known = self.planned.iter().position(|(last, _)| *last == file);
         let planned = match known {
             Some(at) => self.planned.remove(at).1,

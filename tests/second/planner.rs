@@ -160,17 +160,15 @@ fn addresses_match_hops(addresses: &[Bits], hops: &[Vec<u16>]) -> bool {
     })
 }
 
-impl Wiring {
-    /// The wiring file.
-    pub fn bytes(&self) -> Vec<u8> {
-        let sizes = [self.cards, self.links.len()].into_iter();
-        let firsts = self.links.iter().map(|&(p, _)| p);
-        let seconds = self.links.iter().map(|&(_, q)| q);
-        let numbers = sizes.chain(firsts).chain(seconds);
-        numbers
-            .flat_map(|number| (number as u16).to_le_bytes())
-            .collect()
-    }
+/// The wiring file of some cards and the ends of their links.
+pub fn wiring_file(cards: usize, links: &[(usize, usize)]) -> Vec<u8> {
+    let sizes = [cards, links.len()].into_iter();
+    let firsts = links.iter().map(|&(p, _)| p);
+    let seconds = links.iter().map(|&(_, q)| q);
+    let numbers = sizes.chain(firsts).chain(seconds);
+    numbers
+        .flat_map(|number| (number as u16).to_le_bytes())
+        .collect()
 }
 
 impl Plan {
