@@ -44,7 +44,7 @@ extern "C" {
 #endif
 
 /* Raised with each section of docs/LANDINGS.md. */
-#define JOLVENTE_VERSION "0.7"
+#define JOLVENTE_VERSION "0.8"
 
 /* The longest wiring file, the longest plan file, and lent lengths. */
 enum {
