@@ -1,4 +1,4 @@
--- The links of a plan that touch a card: the test of one, and the search for the lowest. Assumes nothing.
+-- The links of a plan that touch a card: the test of one, the search for the lowest, and what it says of the last card. Assumes nothing.
 use mathlib.Core.Path.{_≡_, refl, sym, _∙_}
 use mathlib.Core.Bool.{Bool, true, false}
 use mathlib.Core.Logic.{_≢_}
