@@ -1,10 +1,10 @@
 -- The bytes of a plan, written from their start on: sizes, ends, addresses. Assumes nothing.
-use mathlib.Core.Path.{_≡_, refl, sym, _∙_}
+use mathlib.Core.Path.{_≡_, refl, sym, ap, _∙_}
 use mathlib.Core.List.{List, [], _++_}
 use Prim.Native.Nat.{ℕ, _+_, _*_, _≤_, _<_}
 use native.Mathlib.Nat.{suc-mul, mul-le-mul, mul-le-mul-right}
 use native.Mathlib.Omega.{arith}
-use lib.ListN.{length, replicate, length-append}
+use lib.ListN.{length, replicate, length-append, length-replicate}
 use Rattle.rack.specs.Lists.{tabulate, blocks}
 use Rattle.rack.specs.Buffers.{number-at, two-bytes, Written, Appends}
 use Rattle.rack.proofs.Appending.{written-none, appends-then}
@@ -24,6 +24,10 @@ addresses-room n size hn hs = mul-le-mul {n₂ = 256} {m₂ = 32} hn hs
 
 pub address-inside : (c n size : ℕ) → c < n → n ≤ most-cards → size ≤ 32 → c * size + size ≤ 8192
 address-inside c n size h hn hs = omega (arith, address-room c n size h, addresses-room n size hn hs)
+
+-- A BUFFER of zeros, as a plan is written into
+pub zeros-long : {o : List ℕ} → o ≡ replicate lent-plan 0 → length o ≡ lent-plan
+zeros-long e = ap length e ∙ length-replicate {A = ℕ} lent-plan 0
 
 -- THE THREE SIZES, and then the whole plan
 pub sizes-appended : (n m k : ℕ) (o₀ o₁ o₂ o₃ : List ℕ) → Appends 0 o₀ o₁ (two-bytes n) → Appends 2 o₁ o₂ (two-bytes m) → Appends 4 o₂ o₃ (two-bytes k)

@@ -1,11 +1,9 @@
 -- Sizes, ends and addresses are appended in this order, and fit. Assumes nothing.
-use mathlib.Core.Path.{refl, ap}
-use Prim.Native.Nat.{ℕ, _-_}
+use mathlib.Core.Path.{refl}
+use Prim.Native.Nat.{_-_}
 use native.Mathlib.Omega.{arith}
-use lib.ListN.{length, length-replicate}
 use borrow.Author.Needs.{needs}
-use Rattle.rack.specs.Limits.{lent-plan}
-use Rattle.plan_writer.proofs.WrittenPlan.{addresses-room}
+use Rattle.plan_writer.proofs.WrittenPlan.{addresses-room, zeros-long}
 use Rattle.plan_changer.proofs.ChangedBytes.{links-in, fewer-written, fewer-length}
 use Rattle.plan_changer.proofs.put_fewer.Statement.{statement}
 use Rattle.plan_changer.proofs.put_fewer.Tie as tie
@@ -32,7 +30,7 @@ address-size-requires : tie.Need-address-size-requires
 address-size-requires c κs = search needs
 
 put-sizes-requires : tie.Need-put-sizes-requires
-put-sizes-requires c κs = omega (arith, ap length (c .before .before .before .before .before .before .before .pre .3), length-replicate {A = ℕ} lent-plan 0)
+put-sizes-requires c κs = omega (arith, zeros-long (c .before .before .before .before .before .before .before .pre .3))
 
 cast-put-fewer-ends : tie.Need-cast-put-fewer-ends
 cast-put-fewer-ends c = search needs
@@ -42,7 +40,7 @@ put-fewer-ends-requires c κs =
     let p = c .before .before .before .before .before .before .before .before .before .before .before .before .pre in (
       links-in _ _ (p .0),
       omega (arith, p .1),
-      omega (arith, p .0 .few-links, c .before .before .before .before .put-sizes .kept .0, ap length (p .3), length-replicate {A = ℕ} lent-plan 0),
+      omega (arith, p .0 .few-links, c .before .before .before .before .put-sizes .kept .0, zeros-long (p .3)),
     )
 
 address-start-requires : tie.Need-address-start-requires
@@ -64,8 +62,7 @@ put-rows-requires c κs =
         addresses-room (s .args .sizes .cards - 1) (size .result) (omega (arith, s .pre .0 .few)) (size .ensures .1),
         at-ends .put-fewer-ends .kept .1 .1 .1 .0,
         at-sizes .put-sizes .kept .0,
-        ap length (s .pre .3),
-        length-replicate {A = ℕ} lent-plan 0,
+        zeros-long (s .pre .3),
       ),
     )
 

@@ -1,10 +1,7 @@
 -- Sizes, ends, the old addresses and the new one are appended in this order, and fit. Assumes nothing.
-use mathlib.Core.Path.{ap}
-use Prim.Native.Nat.{ℕ}
 use native.Mathlib.Omega.{arith}
-use lib.ListN.{length, length-replicate}
 use borrow.Author.Needs.{needs}
-use Rattle.rack.specs.Limits.{lent-plan}
+use Rattle.plan_writer.proofs.WrittenPlan.{zeros-long}
 use Rattle.plan_changer.proofs.ChangedBytes.{links-in, more-room, size-more, more-written, more-length}
 use Rattle.plan_changer.proofs.put_more.Statement.{statement}
 use Rattle.plan_changer.proofs.put_more.Tie as tie
@@ -34,12 +31,12 @@ add-put-sizes-3 : tie.Need-add-put-sizes-3
 add-put-sizes-3 c = search needs
 
 put-sizes-requires : tie.Need-put-sizes-requires
-put-sizes-requires c κs = omega (arith, ap length (c .before .before .before .before .before .before .before .pre .5), length-replicate {A = ℕ} lent-plan 0)
+put-sizes-requires c κs = omega (arith, zeros-long (c .before .before .before .before .before .before .before .pre .5))
 
 put-more-ends-requires : tie.Need-put-more-ends-requires
 put-more-ends-requires c κs =
     let p = c .before .before .before .before .before .before .before .before .before .before .before .pre in
-    (links-in _ _ (p .0), omega (arith, p .2, c .before .before .before .put-sizes .kept .0, ap length (p .5), length-replicate {A = ℕ} lent-plan 0))
+    (links-in _ _ (p .0), omega (arith, p .2, c .before .before .before .put-sizes .kept .0, zeros-long (p .5)))
 
 add-address-start : tie.Need-add-address-start
 add-address-start c = search needs
@@ -62,8 +59,7 @@ put-rows-requires c κs =
         more-room _ _ (s .pre .0) (s .args .card) (size .result) (size .ensures .0) (s .pre .1) (s .pre .2) (size .ensures .1),
         at-ends .put-more-ends .kept .1 .1 .1 .1 .0,
         at-sizes .put-sizes .kept .0,
-        ap length (s .pre .5),
-        length-replicate {A = ℕ} lent-plan 0,
+        zeros-long (s .pre .5),
       ),
     )
 
@@ -90,8 +86,7 @@ put-row-with-one-requires c κs =
         at-rows .put-rows .kept .1 .1 .1 .1 .0,
         at-ends .put-more-ends .kept .1 .1 .1 .1 .0,
         at-sizes .put-sizes .kept .0,
-        ap length (s .pre .5),
-        length-replicate {A = ℕ} lent-plan 0,
+        zeros-long (s .pre .5),
       ),
     )
 

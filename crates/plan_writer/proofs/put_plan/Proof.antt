@@ -1,10 +1,6 @@
 -- Sizes, ends and addresses are appended in this order, and fit. Assumes nothing.
-use mathlib.Core.Path.{ap}
-use lib.ListN.{length, length-replicate}
-use Prim.Native.Nat.{ℕ}
 use native.Mathlib.Omega.{arith}
-use Rattle.rack.specs.Limits.{lent-plan}
-use Rattle.plan_writer.proofs.WrittenPlan.{addresses-room, plan-written, plan-length}
+use Rattle.plan_writer.proofs.WrittenPlan.{addresses-room, zeros-long, plan-written, plan-length}
 use borrow.Author.Needs.{needs}
 use Rattle.plan_writer.proofs.put_plan.Statement.{statement}
 use Rattle.plan_writer.proofs.put_plan.Tie as tie
@@ -13,7 +9,7 @@ address-size-requires : tie.Need-address-size-requires
 address-size-requires c κs = search needs
 
 put-sizes-requires : tie.Need-put-sizes-requires
-put-sizes-requires c κs = omega (arith, ap length (c .before .before .before .before .before .pre .3), length-replicate {A = ℕ} lent-plan 0)
+put-sizes-requires c κs = omega (arith, zeros-long (c .before .before .before .before .before .pre .3))
 
 mul-put-ends : tie.Need-mul-put-ends
 mul-put-ends c = search needs
@@ -22,7 +18,7 @@ put-ends-requires : tie.Need-put-ends-requires
 put-ends-requires c κs =
     let at-put-sizes = c .before .before .before in
     let p = at-put-sizes .before .before .before .before .before .before .pre in
-    (omega (arith, p .0 .long), omega (arith, p .0 .few-links, at-put-sizes .put-sizes .kept .0, ap length (p .3), length-replicate {A = ℕ} lent-plan 0))
+    (omega (arith, p .0 .long), omega (arith, p .0 .few-links, at-put-sizes .put-sizes .kept .0, zeros-long (p .3)))
 
 address-start-requires : tie.Need-address-start-requires
 address-start-requires c κs = search needs
@@ -41,8 +37,7 @@ put-addresses-requires c κs =
         addresses-room (s .args .n) _ (s .pre .0 .few) few,
         c .before .before .before .before .put-ends .kept .1 .1 .0,
         c .before .before .before .before .before .before .before .before .put-sizes .kept .0,
-        ap length (s .pre .3),
-        length-replicate {A = ℕ} lent-plan 0,
+        zeros-long (s .pre .3),
       ),
     )
 
