@@ -32,8 +32,8 @@ use Rattle.pendant.proofs.Acceptance.{count-links, link-before}
 use Rattle.pendant.proofs.Hanging.{hook, pendant-added, pendant-removed}
 use Rattle.plan_parts.specs.Parts.{first-ends, second-ends, row-byte, row, row-with-one}
 use Rattle.plan_changer.specs.Changed.{more-bytes, fewer-bytes}
-use Rattle.last_card.proofs.PlanParts.{ends, first, second, byte-of, rows}
-use Rattle.last_card.proofs.PlanParts.{read-first-ends, read-second-ends, read-row-byte, read-row}
+use Rattle.last_card.proofs.ReadParts.{ends, first, second, byte-of, rows}
+use Rattle.last_card.proofs.ReadParts.{read-first-ends, read-second-ends, read-row-byte, read-row}
 
 -- A PENDANT CARD changes no end of the other links and no bit of the other cards
 module _ {w : Wiring} {c : ℕ} {v : Wiring} (pd : Pendant w c v) where

@@ -1,4 +1,4 @@
-pub mod PlanParts
+pub mod ReadParts
 pub mod ChangedPlans
 pub mod Refusals
 pub mod Planned

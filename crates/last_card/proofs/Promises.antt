@@ -8,6 +8,7 @@ use native.Mathlib.Omega.{arith}
 use lib.ListN.{length, take}
 use Rattle.rack.specs.Limits.{lent-plan}
 use Rattle.rack.specs.PlanFile.{plan-cards, plan-links, plan-wiring}
+use Rattle.rack.proofs.Logic.{not-true-false}
 use Rattle.rack.proofs.WiringFile.{wiring-at-cards}
 use Rattle.planner.specs.PlanBytes.{plan-bytes}
 use Rattle.reader.specs.Plan.{plan-refusal}
@@ -55,11 +56,12 @@ take-off-refused ps =
       take-off-no-room ps,
     )
   where
-    only-card : plan-cards ps ≡ 1 → off-refusal (plan-refusal ps) (last-hangs (plan-wiring ps)) ≢ 0
-    only-card one z =
-        let f = clear-hanging (plan-refusal ps) (last-hangs (plan-wiring ps)) z in
-        let pd = pendant-less ps (f .0) (f .1) in
-        omega (arith, pd .inside, pd .cards, wiring-at-cards 6 ps)
+    only-card : plan-refusal ps ≡ 0 → plan-cards ps ≡ 1 → off-refusal (plan-refusal ps) (last-hangs (plan-wiring ps)) ≡ 17
+    only-card e one =
+        let hangs = last-hangs (plan-wiring ps) in
+        not-hanging-refused (plan-refusal ps) hangs e (not-true-false hangs (λ t.
+        let pd = pendant-less ps e t in
+        omega (arith, pd .inside, pd .cards, wiring-at-cards 6 ps)))
 
 pub refusals-keep : Refusals-keep
 unfolding Refusals-keep

@@ -33,7 +33,7 @@ use Rattle.reader.proofs.Plan.{plan-clear}
 use Rattle.reader.proofs.Promises.{read-accepted, read-columns}
 use Rattle.plan_parts.specs.Parts.{part, first-ends, second-ends, row-byte, row}
 use Rattle.plan_parts.proofs.AddressRows.{row-byte-below, row-byte-behind}
-use Rattle.plan_changer.specs.Changing.{Known}
+use Rattle.plan_changer.specs.Changed.{Known}
 
 -- THE ENDS of the first i links, first ends or second ends
 abbrev pub ends : (Link → ℕ) → Wiring → (i : ℕ) → List ℕ

@@ -21,7 +21,7 @@ add-card-refusal ps c room = cond (eqb room lent-plan) (add-refusal (plan-refusa
 unfoldable pub take-off-refusal : List ℕ → (room : ℕ) → ℕ
 take-off-refusal ps room = cond (eqb room lent-plan) (off-refusal (plan-refusal ps) (last-hangs (plan-wiring ps))) 1
 
--- "the bytes that the planner writes for the changed wiring", and their length; with a refusal no length, and the lent bytes as they were
+-- "the bytes the planner would write for the changed wiring", and their length; with a refusal no length, and the lent bytes as they were
 abbrev pub Add-says : List ℕ → (card : ℕ) → NewPlan → (output output-now : List ℕ) → Type 0
 Add-says ps c r output output-now =
     New-plan-is (add-card-refusal ps c (length output)) (plan-bytes (with-card (plan-wiring ps) c)) r output output-now

@@ -39,7 +39,7 @@ Take-off-refused =
     let hangs = last-hangs (plan-wiring ps) in
     ((x ≡ 0) ↔ ((plan-refusal ps ≡ 0) × (hangs ≡ true)))
     × ((x ≡ 17) ↔ ((plan-refusal ps ≡ 0) × (hangs ≡ false)))
-    × (plan-cards ps ≡ 1 → x ≢ 0)
+    × (plan-refusal ps ≡ 0 → plan-cards ps ≡ 1 → x ≡ 17)
     × (plan-refusal ps ≢ 0 → x ≡ plan-refusal ps)
     × ((room : ℕ) → room ≢ 16390 → take-off-refusal ps room ≡ 1)
 

@@ -1,20 +1,12 @@
--- What adding a card to a plan and taking its last card off answer, where the plan's sizes are known. Assumes nothing: these are definitions.
+-- What adding a card to a plan and taking its last card off answer, behind the refusals of reading. Assumes nothing: these are definitions.
 use mathlib.Core.Path.{_≡_}
 use mathlib.Core.Bool.{Bool, _||_, cond}
 use mathlib.Core.List.{List, _++_}
-use Prim.Native.Nat.{ℕ, _-_, _<_}
+use Prim.Native.Nat.{ℕ, _-_}
 use lib.Dec.{leb, eqb}
 use lib.ListN.{length, replicate}
 use Rattle.rack.specs.Limits.{most-cards, most-links}
-use Rattle.reader.specs.Reading.{Laid-out}
-use Rattle.reader.specs.declared.layout.Sizes.{Sizes}
 use Rattle.plan_changer.specs.declared.NewPlan.{NewPlan}
-
--- all that is asked of a plan whose reading was not refused: a layout, fewer columns than cards, and a column where there is a link
-pub record Known (ps : List ℕ) (s : Sizes) : Type 0 where
-  pub laid-out : Laid-out ps s
-  pub few : s .columns < s .cards
-  pub crossed : 0 < s .links → 0 < s .columns
 
 -- a refusal that comes before it, then 14: the card number is n or more; then 16: "n is 256 or m is 2,048" (docs/REQUIREMENTS.md)
 unfoldable pub add-refusal : (before n m : ℕ) → (card : ℕ) → ℕ

@@ -3,7 +3,7 @@ use mathlib.Core.Path.{sym}
 use native.Mathlib.Omega.{arith}
 use borrow.Author.Needs.{needs}
 use Rattle.plan_changer.proofs.Answers.{plan-refused}
-use Rattle.last_card.proofs.PlanParts.{read-known}
+use Rattle.last_card.proofs.ReadParts.{read-known}
 use Rattle.last_card.proofs.Refusals.{add-no-room}
 use Rattle.last_card.proofs.Answers.{add-answered}
 use Rattle.last_card.proofs.add_card.Statement.{statement}
