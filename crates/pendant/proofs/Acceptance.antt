@@ -1,5 +1,6 @@
 -- A rack with a last card on a last link is accepted exactly if it is without them. Assumes nothing.
 use mathlib.Core.Path.{_≡_, refl, ap, _∙_}
+use mathlib.Core.Bool.{true}
 use mathlib.Core.Logic.{inl, inr}
 use mathlib.Core.List.{List, [], _∷_}
 use Prim.Native.Nat.{ℕ, suc, _≤_, _<_}
@@ -8,17 +9,30 @@ use lib.ListN.{length, getD, take, length-append, List·getD-append}
 use lib.Seq.{take-length, getD-at, take-append-le}
 use Rattle.rack.specs.Lists.{count}
 use Rattle.rack.specs.Wiring.{Link, Wiring, link, link-count, link-at, joins}
-use Rattle.rack.specs.Columns.{column-count, address}
+use Rattle.rack.specs.Hops.{connected}
+use Rattle.rack.specs.Columns.{column-count, address, Embedding}
 use Rattle.rack.specs.Refusals.{most-parallel, refusal, links-refusal, rack-refusal, wiring-refusal}
 use Rattle.rack.specs.Promises.{Links-join}
 use Rattle.rack.proofs.Logic.{not-true-false, by-lt}
 use Rattle.rack.proofs.Lists.{none-count, in-getD}
 use Rattle.rack.proofs.Paths.{Ends, joins-ends}
+use Rattle.rack.proofs.Crossing.{Rack}
 use Rattle.rack.proofs.Refusals.{Joins-cards, or-else-clear, or-else-second}
 use Rattle.rack.proofs.Acceptance.{accepted-embedding, embedding-accepted}
 use Rattle.rack.proofs.Promises.{links-join}
 use Rattle.pendant.proofs.Hops.{Pendant, all-join, connected-removed, rack-added, rack-removed}
 use Rattle.pendant.proofs.Addresses.{embedding-added, embedding-removed}
+
+-- A RACK that is accepted where another is: its links are, and it is a rack and its addresses measure hops where those of the other do
+acceptance-carried : (u v : Wiring) → (links-refusal u .number ≡ 0 → links-refusal v .number ≡ 0) → (connected u ≡ true → Rack v)
+    → (connected u ≡ true → Embedding u (column-count u) (address u) → Embedding v (column-count v) (address v))
+    → wiring-refusal u .number ≡ 0 → wiring-refusal v .number ≡ 0
+unfolding wiring-refusal
+acceptance-carried u v links rack embedding h =
+    let p = or-else-clear (links-refusal u) (rack-refusal u) h in
+    let a = accepted-embedding u (p .1) in
+    let e : rack-refusal v ≡ refusal 0 0 = embedding-accepted v (rack (a .0)) (column-count v) (address v) (embedding (a .0) (a .1)) in
+    rw (or-else-second (links-refusal v) (rack-refusal v) (links (p .0)), e) refl
 
 module _ {w : Wiring} {c : ℕ} {v : Wiring} (pd : Pendant w c v) where
   abbrev n : ℕ
@@ -74,21 +88,9 @@ module _ {w : Wiring} {c : ℕ} {v : Wiring} (pd : Pendant w c v) where
       few : (i : ℕ) → i < m → Few w i
       few i l = let k = links-join v .0 h i (omega (arith, count-links)) .3 in rw (link-before i l, take-before i (omega arith)) at k
 
-  -- ACCEPTED
+  -- ACCEPTED with the card exactly if without it
   pub accepted-added : wiring-refusal w .number ≡ 0 → wiring-refusal v .number ≡ 0
-  unfolding wiring-refusal
-  accepted-added h =
-      let p = or-else-clear (links-refusal w) (rack-refusal w) h in
-      let a = accepted-embedding w (p .1) in
-      let e : rack-refusal v ≡ refusal 0 0 =
-      embedding-accepted v (rack-added pd (a .0)) (column-count v) (address v) (embedding-added pd (a .0) (a .1)) in
-      rw (or-else-second (links-refusal v) (rack-refusal v) (links-added (p .0)), e) refl
+  accepted-added = acceptance-carried w v links-added (rack-added pd) (embedding-added pd)
 
   pub accepted-removed : wiring-refusal v .number ≡ 0 → wiring-refusal w .number ≡ 0
-  unfolding wiring-refusal
-  accepted-removed h =
-      let p = or-else-clear (links-refusal v) (rack-refusal v) h in
-      let a = accepted-embedding v (p .1) in
-      let e : rack-refusal w ≡ refusal 0 0 =
-      embedding-accepted w (rack-removed pd (a .0)) (column-count w) (address w) (embedding-removed pd (connected-removed pd (a .0)) (a .1)) in
-      rw (or-else-second (links-refusal w) (rack-refusal w) (links-removed (p .0)), e) refl
+  accepted-removed = acceptance-carried v w links-removed (rack-removed pd) (λ whole. embedding-removed pd (connected-removed pd whole))

@@ -1,7 +1,7 @@
 -- The columns with a last card on a last link: those without it, each with the bit of the card that it hangs on, and a last one that is 1 at the
 -- new card alone. Assumes nothing.
 use mathlib.Core.Path.{_≡_, refl, sym, ap, ap₂, _∙_}
-use mathlib.Core.Bool.{Bool, true, false}
+use mathlib.Core.Bool.{Bool, true, false, not}
 use mathlib.Core.Logic.{inl, inr}
 use mathlib.Core.List.{List, [], _∷_, _++_, map, map-append}
 use Prim.Native.Nat.{ℕ, suc, _+_, _<_}
@@ -14,7 +14,7 @@ use Rattle.rack.specs.Lists.{differ, any, tabulate}
 use Rattle.rack.specs.Wiring.{Link, Wiring}
 use Rattle.rack.specs.Hops.{hops, connected}
 use Rattle.rack.specs.Columns.{nearer-first, side, column, same-column, add-column, add-columns, columns}
-use Rattle.rack.proofs.Logic.{true-not-false, not-true-false, by-bool}
+use Rattle.rack.proofs.Logic.{true-not-false, not-true-false, by-bool, differ-self}
 use Rattle.rack.proofs.Lists.{In, any-in, map-in}
 use Rattle.rack.proofs.Tables.{getD-tabulate, tabulate-ext, tabulate-snoc}
 use Rattle.rack.proofs.Hops.{hops-self}
@@ -55,6 +55,10 @@ module _ (c : ℕ) where
       rw (longer-any x ys) (by-bool (any (same-column x) ys)
       (λ (t : any (same-column x) ys ≡ true). rw t refl)
       (λ (t : any (same-column x) ys ≡ false). rw t (sym (map-append (longer c) ys (x ∷ [])))))
+
+differ-not : (x : Bool) → differ (not x) x ≡ true
+differ-not true = refl
+differ-not false = refl
 
 adds-last : (w : Wiring) (ls : List Link) (l : Link) (cs : List (List Bool))
     → add-columns w (ls ++ (l ∷ [])) cs ≡ add-column (column w l) (add-columns w ls cs)
@@ -111,27 +115,20 @@ module _ {w : Wiring} {c : ℕ} {v : Wiring} (pd : Pendant w c v) (whole : conne
   further : (a : ℕ) → a < n → hops v a n ≡ suc (hops v a c)
   further a h = hops-to-new pd whole a h ∙ ap suc (sym (hops-old pd whole a c h (pd .inside)))
 
-  parts-first : (l : Link) → l .first ≡ n → l .second ≡ c → Parts l
-  unfolding side nearer-first
-  parts-first l p q =
-      let others : (a : ℕ) → a < n → ltb (hops v a (l .first)) (hops v a (l .second)) ≡ false =
-      λ a h. rw (p, q) (le-ltb (hops v a n) (hops v a c) (omega (arith, further a h))) in
-      let new : ltb (hops v n (l .first)) (hops v n (l .second)) ≡ true =
-      rw (p, q) (lt-ltb (hops v n n) (hops v n c) (omega (arith, hops-self v n, hops-from-new pd whole c (pd .inside)))) in
-      ((λ a h. rw (others a h, others 0 zero-inside) refl), rw (new, others 0 zero-inside) refl)
-
-  parts-second : (l : Link) → l .first ≡ c → l .second ≡ n → Parts l
-  unfolding side nearer-first
-  parts-second l p q =
-      let others : (a : ℕ) → a < n → ltb (hops v a (l .first)) (hops v a (l .second)) ≡ true =
-      λ a h. rw (p, q) (lt-ltb (hops v a c) (hops v a n) (omega (arith, further a h))) in
-      let new : ltb (hops v n (l .first)) (hops v n (l .second)) ≡ false =
-      rw (p, q) (le-ltb (hops v n c) (hops v n n) (omega (arith, hops-self v n))) in
-      ((λ a h. rw (others a h, others 0 zero-inside) refl), rw (new, others 0 zero-inside) refl)
+  -- all others are near its one end, and the last card is near the other
+  parts-nearer : (l : Link) (near : Bool) → ((a : ℕ) → a < n → nearer-first v l a ≡ near) → nearer-first v l n ≡ not near → Parts l
+  unfolding side
+  parts-nearer l near others new =
+      ((λ a h. rw (others a h, others 0 zero-inside) (differ-self near)), rw (new, others 0 zero-inside) (differ-not near))
 
   parts : (l : Link) → Ends n c l → Parts l
-  parts l (inl e) = parts-first l (e .0) (e .1)
-  parts l (inr e) = parts-second l (e .0) (e .1)
+  unfolding nearer-first
+  parts l (inl e) =
+      parts-nearer l false (λ a h. rw (e .0, e .1) (le-ltb (hops v a n) (hops v a c) (omega (arith, further a h))))
+      (rw (e .0, e .1) (lt-ltb (hops v n n) (hops v n c) (omega (arith, hops-self v n, hops-from-new pd whole c (pd .inside)))))
+  parts l (inr e) =
+      parts-nearer l true (λ a h. rw (e .0, e .1) (lt-ltb (hops v a c) (hops v a n) (omega (arith, further a h))))
+      (rw (e .0, e .1) (le-ltb (hops v n c) (hops v n n) (omega (arith, hops-self v n))))
 
   column-last : column v (pd .last) ≡ last-column n
   column-last =

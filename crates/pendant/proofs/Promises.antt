@@ -8,7 +8,7 @@ use Rattle.rack.proofs.Crossing.{Rack}
 use Rattle.rack.proofs.Accepted.{wiring-accepted}
 use Rattle.pendant.specs.Pendant.{with-card}
 use Rattle.pendant.specs.Promises.{Hops-added, Columns-added, Addresses-added}
-use Rattle.pendant.specs.Promises.{Added-accepted, Off-accepted, Hangs-means, Off-undoes}
+use Rattle.pendant.specs.Promises.{Added-accepted, Taken-off-accepted, Hangs-means, Taken-off-restores}
 use Rattle.pendant.proofs.Hops.{Pendant, hops-old, hops-from-new, hops-to-new}
 use Rattle.pendant.proofs.Columns.{columns-pendant}
 use Rattle.pendant.proofs.Addresses.{count-pendant, address-old, address-new}
@@ -45,13 +45,13 @@ pub added-accepted : Added-accepted
 unfolding Added-accepted
 added-accepted w c h inside = accepted-added (pendant w c h inside) h
 
-pub off-accepted : Off-accepted
-unfolding Off-accepted
-off-accepted w some h hangs = accepted-removed (pendant-removed w (wiring-accepted w some h .rack) hangs) h
+pub taken-off-accepted : Taken-off-accepted
+unfolding Taken-off-accepted
+taken-off-accepted w some h hangs = accepted-removed (pendant-removed w (wiring-accepted w some h .rack) hangs) h
 
 pub hangs-means : Hangs-means
 hangs-means = Hanging.hangs-means
 
-pub off-undoes : Off-undoes
-unfolding Off-undoes
-off-undoes w c h inside = let pd = pendant w c h inside in (pendant-hangs pd, pendant-without pd)
+pub taken-off-restores : Taken-off-restores
+unfolding Taken-off-restores
+taken-off-restores w c h inside = let pd = pendant w c h inside in (pendant-hangs pd, pendant-without pd)

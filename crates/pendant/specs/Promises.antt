@@ -41,8 +41,8 @@ Addresses-added =
 unfoldable pub Added-accepted : Type 0
 Added-accepted = (w : Wiring) (c : ℕ) → wiring-refusal w .number ≡ 0 → c < w .cards → wiring-refusal (with-card w c) .number ≡ 0
 
-unfoldable pub Off-accepted : Type 0
-Off-accepted =
+unfoldable pub Taken-off-accepted : Type 0
+Taken-off-accepted =
     (w : Wiring) → 1 ≤ w .cards → wiring-refusal w .number ≡ 0 → last-hangs w ≡ true → wiring-refusal (without-card w) .number ≡ 0
 
 -- "where its one link is the last link": one link of all touches the last card, and the last link does
@@ -53,6 +53,6 @@ Hangs-means =
     ↔ ((count (touches (w .cards - 1)) (w .links) ≡ 1) × (touches (w .cards - 1) (link-at w (link-count w - 1)) ≡ true))
 
 -- "taking off undoes adding", of wirings: the new card hangs on the last link, and without it the rack is the old one
-unfoldable pub Off-undoes : Type 0
-Off-undoes =
+unfoldable pub Taken-off-restores : Type 0
+Taken-off-restores =
     (w : Wiring) (c : ℕ) → wiring-refusal w .number ≡ 0 → c < w .cards → (last-hangs (with-card w c) ≡ true) × (without-card (with-card w c) ≡ w)
