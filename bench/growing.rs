@@ -3,10 +3,11 @@
 use crate::last_card::{add_card, take_card_off};
 use crate::racks::{self, Rack, Rng};
 use crate::second::planner::plan;
-use crate::second::PLAN_BYTES;
+use crate::second::{MOST_CARDS, PLAN_BYTES};
 
 const SEED: u64 = 7;
-const CARDS: usize = 255;
+/// One card more is the most that a rack has.
+const CARDS: usize = MOST_CARDS - 1;
 
 pub type Output = [u8; PLAN_BYTES];
 

@@ -4,6 +4,7 @@ use crate::drawn::{some_card, MOST};
 use crate::inner_both::{Answer, Both, Call, Name};
 use crate::inner_lent::Lengths;
 use crate::racks::Rng;
+use crate::second::MOST_CARDS;
 use crate::stop;
 
 /// Hanging a card on a card, or taking off the last one.
@@ -32,7 +33,7 @@ pub fn change_plan(both: &mut Both, rng: &mut Rng, plan: &[u8]) {
         add_and_take_off(both, rng, plan, card as u32);
     }
     let (adding, taking_off) = (Name::AddCard, Name::TakeCardOff);
-    for card in [cards as u32, 256, MOST] {
+    for card in [cards as u32, MOST_CARDS as u32, MOST] {
         both.call(change(adding, card), plan, adding.lengths());
     }
     both.call(change(taking_off, 0), plan, taking_off.lengths());

@@ -4,24 +4,23 @@ use crate::inner_both::{Both, Name};
 use crate::inner_changes::{change, new_plan};
 use crate::racks::{chain, cube, ring, star, Rack};
 use crate::second::planner::plan;
+use crate::second::MOST_CARDS;
 use crate::stop;
 use std::ops::Range;
 
-/// The most cards of a rack.
-const MOST: usize = 256;
 /// The cards of racks that get one more: from no column to addresses of three bytes, and up to the most cards.
 const FEW: Range<usize> = 1..18;
-const MANY: Range<usize> = MOST - 2..MOST;
+const MANY: Range<usize> = MOST_CARDS - 2..MOST_CARDS;
 
 pub fn check(both: &mut Both) {
     for cards in FEW.chain(MANY) {
         grows(both, &chain(cards), cards - 1, &chain(cards + 1));
         grows(both, &star(cards), 0, &star(cards + 1));
     }
-    for rack in [chain(MOST), star(MOST), cube(8)] {
+    for rack in [chain(MOST_CARDS), star(MOST_CARDS), cube(8)] {
         let plan = plan_of(&rack);
-        refused(both, Name::AddCard, MOST - 1, &plan, 16);
-        refused(both, Name::AddCard, MOST, &plan, 14);
+        refused(both, Name::AddCard, MOST_CARDS - 1, &plan, 16);
+        refused(both, Name::AddCard, MOST_CARDS, &plan, 14);
     }
     for rack in kept_racks() {
         refused(both, Name::TakeCardOff, 0, &plan_of(&rack), 17);
@@ -43,13 +42,13 @@ fn kept_racks() -> [Rack; 9] {
         cards,
         links: links.to_vec(),
     };
-    let mut long_chain = chain(MOST);
-    long_chain.links.swap(0, MOST - 2);
+    let mut long_chain = chain(MOST_CARDS);
+    long_chain.links.swap(0, MOST_CARDS - 2);
     [
         chain(1),
         ring(4),
         ring(6),
-        ring(MOST),
+        ring(MOST_CARDS),
         cube(8),
         of(3, &[(0, 2), (2, 1)]),
         of(4, &[(3, 0), (3, 1), (3, 2)]),

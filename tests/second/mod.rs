@@ -14,7 +14,7 @@ pub const PLAN_BYTES: usize = 16_390;
 pub const MET_BYTES: usize = 512;
 pub const RECORD_BYTES: usize = 16;
 
-const MOST_CARDS: usize = 256;
+pub const MOST_CARDS: usize = 256;
 const MOST_LINKS: usize = 2_048;
 const MOST_COLUMNS: usize = 255;
 
