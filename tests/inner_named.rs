@@ -22,7 +22,7 @@ pub fn check(both: &mut Both) {
         refused(both, Name::AddCard, MOST_CARDS - 1, &plan, 16);
         refused(both, Name::AddCard, MOST_CARDS, &plan, 14);
     }
-    for rack in kept_racks() {
+    for rack in racks_for_17() {
         refused(both, Name::TakeCardOff, 0, &plan_of(&rack), 17);
     }
     for rack in [ring(6), cube(8)] {
@@ -37,7 +37,7 @@ pub fn check(both: &mut Both) {
 }
 
 /// Racks whose last card does not hang on the last link alone: the only card, cards with more links, and with another link.
-fn kept_racks() -> [Rack; 9] {
+fn racks_for_17() -> [Rack; 9] {
     let of = |cards, links: &[(usize, usize)]| Rack {
         cards,
         links: links.to_vec(),
