@@ -17,7 +17,7 @@ use Rattle.reader.proofs.Reading.{says-laid-out}
 use Rattle.forwarder.specs.Forwarding.{step, walk}
 use Rattle.forwarder.specs.Calls.{lent-met, walk-hops, step-refusal, walk-refusal, Step-says, Walk-says}
 use Rattle.forwarder.specs.declared.step.Stepped.{Stepped}
-use Rattle.forwarder.specs.declared.walk.Traffic.{Traffic}
+use Rattle.forwarder.specs.declared.walk.Tally.{Tally}
 use Rattle.forwarder.specs.declared.walk.Walked.{Walked}
 use Rattle.forwarder.proofs.Frames.{answered-layout, answered-cards}
 use Rattle.forwarder.proofs.Stepping.{step-far-below}
@@ -107,7 +107,7 @@ module _ (ps : List ℕ) (a b : ℕ) where
       record { stepped = s; crossed = rw (clear, column) d }
 
   -- A WALK without hops crosses none, and else what lies between the first two of the cards met
-  module _ (t : Traffic) (old new : List ℕ) where
+  module _ (t : Tally) (old new : List ℕ) where
     module _ (r : Walked) (s : Walk-says ps a b t r old new) where
       pub walk-clear : r .hops ≢ 0 → walk-refusal ps a b t (length old) ≡ 0
       walk-clear n = by-eq (r .number) 0 (λ e. sym (s .number) ∙ e) (λ m. absurd (n (rw (ne-eqb (r .number) 0 m) at (s .hops))))

@@ -20,7 +20,7 @@ use Rattle.reader.specs.Plan.{plan-refusal}
 use Rattle.reader.proofs.Promises.{read-accepted, read-measured}
 use Rattle.forwarder.specs.Forwarding.{step}
 use Rattle.forwarder.specs.Calls.{step-refusal, walk-refusal}
-use Rattle.forwarder.specs.declared.walk.Traffic.{Traffic}
+use Rattle.forwarder.specs.declared.walk.Tally.{Tally}
 use Rattle.forwarder.proofs.Stepping.{step-two}
 use Rattle.crossing.specs.Differing.{plan-differing, column-number}
 use Rattle.crossing.specs.Crossing.{step-column, walk-column, Column-or-none, Frame-step-says, Frame-walk-says}
@@ -78,7 +78,7 @@ module _ (ps : List ℕ) (a b : ℕ) (r : FrameStep) (s : Frame-step-says ps a b
       (over, f .0, f .1)
 
 -- A WALK
-module _ (ps : List ℕ) (a b : ℕ) (t : Traffic) (r : FrameWalk) (old new : List ℕ) (s : Frame-walk-says ps a b t r old new) where
+module _ (ps : List ℕ) (a b : ℕ) (t : Tally) (r : FrameWalk) (old new : List ℕ) (s : Frame-walk-says ps a b t r old new) where
   abbrev refused : ℕ
   refused = walk-refusal ps a b t (length old)
 

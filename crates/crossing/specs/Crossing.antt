@@ -10,7 +10,7 @@ use Rattle.rack.specs.Lists.{one}
 use Rattle.rack.specs.PlanFile.{plan-columns, plan-hamming}
 use Rattle.forwarder.specs.Forwarding.{step, walk}
 use Rattle.forwarder.specs.Calls.{step-refusal, walk-hops, walk-refusal, Step-says, Walk-says}
-use Rattle.forwarder.specs.declared.walk.Traffic.{Traffic}
+use Rattle.forwarder.specs.declared.walk.Tally.{Tally}
 use Rattle.crossing.specs.Differing.{plan-differing}
 use Rattle.crossing.specs.declared.FrameStep.{FrameStep}
 use Rattle.crossing.specs.declared.FrameWalk.{FrameWalk}
@@ -50,6 +50,6 @@ pub record Frame-step-says (ps : List ℕ) (a b : ℕ) (r : FrameStep) : Type 0 
   pub crossed : Column-or-none (step-refusal ps a b) (step-column ps a b) (plan-columns ps) (r .crossed)
 
 -- a walk's answer and what it leaves, with the first column that it crosses; none with a refusal
-pub record Frame-walk-says (ps : List ℕ) (a b : ℕ) (t : Traffic) (r : FrameWalk) (old new : List ℕ) : Type 0 where
+pub record Frame-walk-says (ps : List ℕ) (a b : ℕ) (t : Tally) (r : FrameWalk) (old new : List ℕ) : Type 0 where
   pub walked : Walk-says ps a b t (r .walked) old new
   pub crossed : Column-or-none (walk-refusal ps a b t (length old)) (walk-column ps a b) (plan-columns ps) (r .crossed)

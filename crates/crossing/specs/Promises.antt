@@ -15,7 +15,7 @@ use Rattle.reader.specs.Plan.{plan-refusal}
 use Rattle.forwarder.specs.Forwarding.{step, walk}
 use Rattle.forwarder.specs.Calls.{walk-hops}
 use Rattle.forwarder.specs.Promises.{If-alike, Same-address, Same-if-card}
-use Rattle.forwarder.specs.declared.walk.Traffic.{Traffic}
+use Rattle.forwarder.specs.declared.walk.Tally.{Tally}
 use Rattle.crossing.specs.Differing.{lowest-differing, plan-differing, column-number}
 use Rattle.crossing.specs.Crossing.{step-column, walk-column, Places-are, Frame-step-says, Frame-walk-says}
 use Rattle.crossing.specs.declared.FrameStep.{FrameStep}
@@ -74,7 +74,7 @@ Places-name-column =
 unfoldable pub Answers-cross : Type 0
 Answers-cross =
     ((ps : List ℕ) (a b : ℕ) (r : FrameStep) → Frame-step-says ps a b r → (r .crossed .found ≡ 1) ↔ (r .stepped .outcome ≡ 2))
-    × ((ps : List ℕ) (a b : ℕ) (t : Traffic) (r : FrameWalk) (old new : List ℕ) → Frame-walk-says ps a b t r old new →
+    × ((ps : List ℕ) (a b : ℕ) (t : Tally) (r : FrameWalk) (old new : List ℕ) → Frame-walk-says ps a b t r old new →
     (r .crossed .found ≡ 1) ↔ (1 ≤ r .walked .hops))
 
 -- on a plan that was read, the column of a step's answer is that of its link
@@ -86,7 +86,7 @@ Step-names-column =
 -- and that of a walk's answer is that of the first link taken
 unfoldable pub Walk-names-column : Type 0
 Walk-names-column =
-    (ps : List ℕ) (a b : ℕ) (t : Traffic) (r : FrameWalk) (old new : List ℕ) → plan-refusal ps ≡ 0 → Frame-walk-says ps a b t r old new →
+    (ps : List ℕ) (a b : ℕ) (t : Tally) (r : FrameWalk) (old new : List ℕ) → plan-refusal ps ≡ 0 → Frame-walk-says ps a b t r old new →
     1 ≤ r .walked .hops →
     (i : ℕ) × (is : List ℕ) × (walk ps a b .taken ≡ i ∷ is) × (r .crossed .found ≡ 1)
     × (r .crossed .column ≡ column-number (plan-wiring ps) (link-at (plan-wiring ps) i))

@@ -5,7 +5,7 @@ ghost use Rattle.forwarder.specs.Calls.{Arrived, Can-take, Frame, Full};
 ghost use Rattle.crossing.specs.Crossing.{Frame-step-says, Frame-walk-says};
 use forwarder::step::Stepped;
 use forwarder::step::step_checked;
-use forwarder::walk::Traffic;
+use forwarder::walk::Tally;
 use forwarder::walk::Walked;
 use forwarder::walk::walk_counted;
 use places::FirstColumn;
@@ -51,12 +51,12 @@ pub fn step_frame(plan: &[u8], from: u32, goal: u32) -> FrameStep
 
 // A frame's walk: 1, 12, 14, 15. The counts go in and come back; stuck is an answer and changes neither. The first column that it crosses
 // lies between the first two cards met.
-pub fn walk_frame(plan: &[u8], from: u32, goal: u32, traffic: Traffic, met: &mut [u16]) -> FrameWalk
-    ensures says { λ r. ⌜ Frame-walk-says (now (plan .entry)) from goal traffic r (now (met .entry)) (now (met .exit)) ⌝ }
-    ensures arrives { λ r. ⌜ (Frame (now (plan .entry)) from goal (now (met .entry)) → Can-take traffic (hops (plan-wiring (now (plan .entry))) from goal) → Arrived (now (plan .entry)) from goal traffic (r .walked) (now (met .exit))) ⌝ }
-    ensures full { λ r. ⌜ (Frame (now (plan .entry)) from goal (now (met .entry)) → (Can-take traffic (hops (plan-wiring (now (plan .entry))) from goal) → ⊥) → Full traffic (r .walked) (now (met .entry)) (now (met .exit))) ⌝ }
+pub fn walk_frame(plan: &[u8], from: u32, goal: u32, tally: Tally, met: &mut [u16]) -> FrameWalk
+    ensures says { λ r. ⌜ Frame-walk-says (now (plan .entry)) from goal tally r (now (met .entry)) (now (met .exit)) ⌝ }
+    ensures arrives { λ r. ⌜ (Frame (now (plan .entry)) from goal (now (met .entry)) → Can-take tally (hops (plan-wiring (now (plan .entry))) from goal) → Arrived (now (plan .entry)) from goal tally (r .walked) (now (met .exit))) ⌝ }
+    ensures full { λ r. ⌜ (Frame (now (plan .entry)) from goal (now (met .entry)) → (Can-take tally (hops (plan-wiring (now (plan .entry))) from goal) → ⊥) → Full tally (r .walked) (now (met .entry)) (now (met .exit))) ⌝ }
 {
-    let walked = walk_counted(plan, from, goal, traffic, met);
+    let walked = walk_counted(plan, from, goal, tally, met);
     if walked.hops == 0 {
         return FrameWalk {
             walked: walked,

@@ -8,15 +8,16 @@ use native.Mathlib.Omega.{arith}
 use lib.Dec.{leb, eqb}
 use lib.ListN.{length}
 use borrow.Author.Tests.{eq-eqb, ne-eqb, le-leb, lt-leb}
+use Rattle.rack.specs.Limits.{most-traffic}
 use Rattle.forwarder.specs.Forwarding.{walk}
-use Rattle.forwarder.specs.Calls.{step-refusal, most-traffic, takes, takes-walk, walk-refusal, Walk-says}
+use Rattle.forwarder.specs.Calls.{step-refusal, takes, takes-walk, walk-refusal, Walk-says}
 use Rattle.forwarder.specs.Parts.{Route-is, Unwalked, Counted}
-use Rattle.forwarder.specs.declared.walk.Traffic.{Traffic}
+use Rattle.forwarder.specs.declared.walk.Tally.{Tally}
 use Rattle.forwarder.specs.declared.walk.Walked.{Walked}
 use Rattle.forwarder.specs.declared.walk.Route.{Route}
 
 -- THE COUNTS
-module _ (t : Traffic) (o h : ℕ) where
+module _ (t : Tally) (o h : ℕ) where
   pub takes-stuck : o ≡ 0 → takes t o h ≡ true
   unfolding takes
   takes-stuck e = rw (eq-eqb o 0 e) refl
@@ -33,7 +34,7 @@ module _ (t : Traffic) (o h : ℕ) where
   unfolding takes
   full-hops n g = rw (ne-eqb o 0 n, lt-leb (t .hops + h) most-traffic g, and-false (leb (suc (t .frames)) most-traffic)) refl
 
-  pub counted-stuck : o ≡ 0 → Counted t o h (record { number = 0; arrived = 0; hops = h; traffic = t })
+  pub counted-stuck : o ≡ 0 → Counted t o h (record { number = 0; arrived = 0; hops = h; tally = t })
   counted-stuck e =
       record {
         number = rw (takes-stuck e) refl;
@@ -44,7 +45,7 @@ module _ (t : Traffic) (o h : ℕ) where
       }
 
   pub counted-arrived : o ≡ 1 → suc (t .frames) ≤ most-traffic → t .hops + h ≤ most-traffic
-      → Counted t o h (record { number = 0; arrived = 1; hops = h; traffic = record { frames = t .frames + 1; hops = t .hops + h } })
+      → Counted t o h (record { number = 0; arrived = 1; hops = h; tally = record { frames = t .frames + 1; hops = t .hops + h } })
   counted-arrived e f g =
       record {
         number = rw (takes-fits f g) refl;
@@ -61,8 +62,8 @@ module _ (t : Traffic) (o h : ℕ) where
         number = rw e (u .refused);
         arrived = rw z (u .arrived);
         hops = rw z (u .hops);
-        frames = omega (arith, u .arrived, ap (λ (x : Traffic). x .frames) (u .traffic));
-        total = rw (u .arrived) (omega (arith, ap (λ (x : Traffic). x .hops) (u .traffic)));
+        frames = omega (arith, u .arrived, ap (λ (x : Tally). x .frames) (u .tally));
+        total = rw (u .arrived) (omega (arith, ap (λ (x : Tally). x .hops) (u .tally)));
       }
 
   pub counted-full-frames : (r : Walked) → o ≢ 0 → most-traffic < suc (t .frames) → Unwalked 15 t r → Counted t o h r
@@ -75,7 +76,7 @@ cond-not : (x : Bool) → _≡_ {A = ℕ} (cond x 0 15) (cond (not x) 15 0)
 cond-not true = refl
 cond-not false = refl
 
-module _ (ps : List ℕ) (a b : ℕ) (t : Traffic) (old : List ℕ) where
+module _ (ps : List ℕ) (a b : ℕ) (t : Tally) (old : List ℕ) where
   -- 1, 12, 14
   refused : (x : ℕ) (r : Walked) → x ≢ 0 → walk-refusal ps a b t (length old) ≡ x → Unwalked x t r → Walk-says ps a b t r old old
   refused x r n e u =
@@ -84,8 +85,8 @@ module _ (ps : List ℕ) (a b : ℕ) (t : Traffic) (old : List ℕ) where
         number = u .refused ∙ sym e;
         arrived = rw z (u .arrived);
         hops = rw z (u .hops);
-        frames = omega (arith, u .arrived, ap (λ (x : Traffic). x .frames) (u .traffic));
-        total = rw (u .arrived) (omega (arith, ap (λ (x : Traffic). x .hops) (u .traffic)));
+        frames = omega (arith, u .arrived, ap (λ (x : Tally). x .frames) (u .tally));
+        total = rw (u .arrived) (omega (arith, ap (λ (x : Tally). x .hops) (u .tally)));
         met = rw z refl;
       }
 

@@ -8,6 +8,7 @@ use native.Mathlib.Omega.{arith}
 use lib.Dec.{leb}
 use lib.ListN.{length, replicate}
 use borrow.Author.Tests.{eq-eqb, ne-eqb, leb-true}
+use Rattle.rack.specs.Limits.{most-traffic}
 use Rattle.rack.specs.Hops.{hops}
 use Rattle.rack.proofs.Logic.{not-true-false, and-left, and-right}
 use Rattle.rack.specs.PlanFile.{plan-cards, plan-wiring}
@@ -16,16 +17,16 @@ use Rattle.reader.specs.Promises.{Measured}
 use Rattle.reader.specs.Reading.{layout-refusal}
 use Rattle.reader.proofs.Promises.{read-measured}
 use Rattle.forwarder.specs.Forwarding.{walk}
-use Rattle.forwarder.specs.Calls.{lent-met, most-traffic, walk-hops, takes, takes-walk, step-refusal, walk-refusal, Walk-says, Frame, Arrived, Full, Can-take}
+use Rattle.forwarder.specs.Calls.{lent-met, walk-hops, takes, takes-walk, step-refusal, walk-refusal, Walk-says, Frame, Arrived, Full, Can-take}
 use Rattle.forwarder.specs.Promises.{Stuck-uncounted, Walk-arrives, Walk-full}
-use Rattle.forwarder.specs.declared.walk.Traffic.{Traffic}
+use Rattle.forwarder.specs.declared.walk.Tally.{Tally}
 use Rattle.forwarder.specs.declared.walk.Walked.{Walked}
 use Rattle.forwarder.proofs.Frames.{both-cards}
 use Rattle.forwarder.proofs.Answers.{takes-stuck, takes-fits}
 use Rattle.forwarder.proofs.Delivery.{Arrives, frame-arrives}
 
 -- none of 1, 12 and 14 applies
-walked-number : (ps : List ℕ) (a b : ℕ) (t : Traffic) (r : Walked) (old new : List ℕ) → Walk-says ps a b t r old new
+walked-number : (ps : List ℕ) (a b : ℕ) (t : Tally) (r : Walked) (old new : List ℕ) → Walk-says ps a b t r old new
     → layout-holds ps ≡ true → a < plan-cards ps → b < plan-cards ps → length old ≡ lent-met → r .number ≡ cond (not (takes-walk t (walk ps a b))) 15 0
 unfolding walk-refusal layout-refusal
 walked-number ps a b t r old new s h from goal room =
@@ -43,7 +44,7 @@ stuck-uncounted ps a b t r old new s h from goal room stuck =
     let none : r .arrived ≡ 0 = rw e at (s .arrived) ∙ stuck in
     (z, none, rw e at (s .hops), omega (arith, s .frames), s .total ∙ rw none (omega arith))
 
-module _ (ps : List ℕ) (a b : ℕ) (t : Traffic) (r : Walked) (old new : List ℕ) (s : Walk-says ps a b t r old new) (f : Frame ps a b old) where
+module _ (ps : List ℕ) (a b : ℕ) (t : Tally) (r : Walked) (old new : List ℕ) (s : Walk-says ps a b t r old new) (f : Frame ps a b old) where
   measured : Measured ps
   measured = read-measured ps (f .read)
 
@@ -118,7 +119,7 @@ module _ (ps : List ℕ) (a b : ℕ) (t : Traffic) (r : Walked) (old new : List 
           }
 
 -- what a walk answers, with what follows of it for a frame
-pub with-arrival : (ps : List ℕ) (a b : ℕ) (t : Traffic) (r : Walked) (old new : List ℕ) → Walk-says ps a b t r old new
+pub with-arrival : (ps : List ℕ) (a b : ℕ) (t : Tally) (r : Walked) (old new : List ℕ) → Walk-says ps a b t r old new
     → Walk-says ps a b t r old new
     × ((Frame ps a b old → Can-take t (hops (plan-wiring ps) a b) → Arrived ps a b t r new)
     × (Frame ps a b old → (Can-take t (hops (plan-wiring ps) a b) → ⊥) → Full t r old new))

@@ -13,7 +13,7 @@ use Rattle.reader.specs.declared.layout.Sizes.{Sizes}
 use Rattle.forwarder.specs.Forwarding.{Walk}
 use Rattle.forwarder.specs.Calls.{step-refusal, lent-met, walk-hops, takes}
 use Rattle.forwarder.specs.declared.step.Stepped.{Stepped}
-use Rattle.forwarder.specs.declared.walk.Traffic.{Traffic}
+use Rattle.forwarder.specs.declared.walk.Tally.{Tally}
 use Rattle.forwarder.specs.declared.walk.Walked.{Walked}
 use Rattle.forwarder.specs.declared.walk.Route.{Route}
 
@@ -48,16 +48,16 @@ pub record Route-is (v : Walk) (r : Route) : Type 0 where
   pub met : r .met ≡ v .met ++ replicate (lent-met - length (v .met)) 0
 
 -- a refused walk: zeros, and the counts as they were
-pub record Unwalked (number : ℕ) (t : Traffic) (r : Walked) : Type 0 where
+pub record Unwalked (number : ℕ) (t : Tally) (r : Walked) : Type 0 where
   pub refused : r .number ≡ number
   pub arrived : r .arrived ≡ 0
   pub hops : r .hops ≡ 0
-  pub traffic : r .traffic ≡ t
+  pub tally : r .tally ≡ t
 
 -- a walk's answer: its counts raised where it arrived, or 15 and zeros with the counts as they were
-pub record Counted (t : Traffic) (o h : ℕ) (r : Walked) : Type 0 where
+pub record Counted (t : Tally) (o h : ℕ) (r : Walked) : Type 0 where
   pub number : r .number ≡ cond (takes t o h) 0 15
   pub arrived : r .arrived ≡ cond (eqb (r .number) 0) o 0
   pub hops : r .hops ≡ cond (eqb (r .number) 0) h 0
-  pub frames : r .traffic .frames ≡ t .frames + r .arrived
-  pub total : r .traffic .hops ≡ t .hops + r .arrived * r .hops
+  pub frames : r .tally .frames ≡ t .frames + r .arrived
+  pub total : r .tally .hops ≡ t .hops + r .arrived * r .hops

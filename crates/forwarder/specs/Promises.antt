@@ -5,14 +5,15 @@ use mathlib.Core.Logic.{_≢_}
 use mathlib.Core.List.{List, [], _∷_}
 use Prim.Native.Nat.{ℕ, suc, _+_, _≤_, _<_}
 use lib.ListN.{length}
+use Rattle.rack.specs.Limits.{most-traffic}
 use Rattle.rack.specs.Wiring.{link-count, link-at, touches, other-end}
 use Rattle.rack.specs.Hops.{hops, is-path}
 use Rattle.rack.specs.PlanFile.{plan-cards, plan-links, plan-columns, plan-wiring, plan-bit}
 use Rattle.reader.specs.Plan.{layout-holds, plan-refusal}
 use Rattle.forwarder.specs.Forwarding.{step-of, leads-nearer, step, walk}
-use Rattle.forwarder.specs.Calls.{Step-says, lent-met, most-traffic, walk-hops, Walk-says, Arrived, Full}
+use Rattle.forwarder.specs.Calls.{Step-says, lent-met, walk-hops, Walk-says, Arrived, Full}
 use Rattle.forwarder.specs.declared.step.Stepped.{Stepped}
-use Rattle.forwarder.specs.declared.walk.Traffic.{Traffic}
+use Rattle.forwarder.specs.declared.walk.Tally.{Tally}
 use Rattle.forwarder.specs.declared.walk.Walked.{Walked}
 
 -- "It takes the first whose far address differs from b's in fewer places than a's own does": arrived exactly if a = b,
@@ -90,20 +91,20 @@ Frame-arrives =
 -- counts can take it. `Frame` and `Can-take` have no condition besides these
 unfoldable pub Walk-arrives : Type 0
 Walk-arrives =
-    (ps : List ℕ) (a b : ℕ) (t : Traffic) (r : Walked) (old new : List ℕ) → Walk-says ps a b t r old new →
+    (ps : List ℕ) (a b : ℕ) (t : Tally) (r : Walked) (old new : List ℕ) → Walk-says ps a b t r old new →
     plan-refusal ps ≡ 0 → a < plan-cards ps → b < plan-cards ps → length old ≡ lent-met →
     suc (t .frames) ≤ most-traffic → t .hops + hops (plan-wiring ps) a b ≤ most-traffic → Arrived ps a b t r new
 
 -- where a count can't take it: 15, and all is as it was
 unfoldable pub Walk-full : Type 0
 Walk-full =
-    (ps : List ℕ) (a b : ℕ) (t : Traffic) (r : Walked) (old new : List ℕ) → Walk-says ps a b t r old new →
+    (ps : List ℕ) (a b : ℕ) (t : Tally) (r : Walked) (old new : List ℕ) → Walk-says ps a b t r old new →
     plan-refusal ps ≡ 0 → a < plan-cards ps → b < plan-cards ps → length old ≡ lent-met →
     (suc (t .frames) ≤ most-traffic → most-traffic < t .hops + hops (plan-wiring ps) a b) → Full t r old new
 
 -- "A stuck walk changes neither count": it is an answer, with its hops, and never 15
 unfoldable pub Stuck-uncounted : Type 0
 Stuck-uncounted =
-    (ps : List ℕ) (a b : ℕ) (t : Traffic) (r : Walked) (old new : List ℕ) → Walk-says ps a b t r old new →
+    (ps : List ℕ) (a b : ℕ) (t : Tally) (r : Walked) (old new : List ℕ) → Walk-says ps a b t r old new →
     layout-holds ps ≡ true → a < plan-cards ps → b < plan-cards ps → length old ≡ lent-met → walk ps a b .arrived ≡ 0 →
-    (r .number ≡ 0) × (r .arrived ≡ 0) × (r .hops ≡ walk-hops (walk ps a b)) × (r .traffic .frames ≡ t .frames) × (r .traffic .hops ≡ t .hops)
+    (r .number ≡ 0) × (r .arrived ≡ 0) × (r .hops ≡ walk-hops (walk ps a b)) × (r .tally .frames ≡ t .frames) × (r .tally .hops ≡ t .hops)

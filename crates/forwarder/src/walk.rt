@@ -11,17 +11,15 @@ ghost use Rattle.forwarder.specs.Calls.{Arrived, Can-take, Frame, Full, 
 ghost use Rattle.forwarder.specs.Parts.{Counted, Route-is, Unwalked};
 use crate::step::frame_sizes;
 use crate::step::step_between;
+use rack::limits::MOST_TRAFFIC;
 use rack::ones::ones_table;
 use reader::layout::Sizes;
 
 // The length of the lent numbers, one for each card.
 pub const LENT_MET: usize = 256;
 
-// A traffic count is 32 bits wide.
-const MOST_TRAFFIC: u32 = 4294967295;
-
 // Frames that arrived, and their hops.
-pub struct Traffic {
+pub struct Tally {
     pub frames: u32,
     pub hops: u32,
 }
@@ -31,7 +29,7 @@ pub struct Walked {
     pub number: u32,
     pub arrived: u32,
     pub hops: u32,
-    pub traffic: Traffic,
+    pub tally: Tally,
 }
 
 // How a walk ended: 1 for arrived or 0 for stuck, its hops, and the cards met, the first one first, with zeros behind them.
@@ -64,45 +62,45 @@ fn walk_between(ones: &[u8; 256], plan: &[u8], sizes: Sizes, a: usize, b: usize)
 }
 
 // A refusal, with the counts as they are.
-fn not_walked(number: u32, traffic: Traffic) -> Walked
-    ensures { λ r. ⌜ Unwalked number traffic r ⌝ }
+fn not_walked(number: u32, tally: Tally) -> Walked
+    ensures { λ r. ⌜ Unwalked number tally r ⌝ }
 {
     Walked {
         number: number,
         arrived: 0,
         hops: 0,
-        traffic: traffic,
+        tally: tally,
     }
 }
 
 // A walk's answer: the counts raised where it arrived, or 15.
-fn counted(traffic: Traffic, arrived: u32, hops: u32) -> Walked
+fn counted(tally: Tally, arrived: u32, hops: u32) -> Walked
     requires { ⌜ arrived ≤ 1 ⌝ }
-    ensures { λ r. ⌜ Counted traffic arrived hops r ⌝ }
+    ensures { λ r. ⌜ Counted tally arrived hops r ⌝ }
 {
     if arrived == 0 {
         return Walked {
             number: 0,
             arrived: 0,
             hops: hops,
-            traffic: traffic,
+            tally: tally,
         };
     }
-    if traffic.frames == MOST_TRAFFIC {
-        return not_walked(15, traffic);
+    if tally.frames == MOST_TRAFFIC {
+        return not_walked(15, tally);
     }
-    if MOST_TRAFFIC - traffic.hops < hops {
-        return not_walked(15, traffic);
+    if MOST_TRAFFIC - tally.hops < hops {
+        return not_walked(15, tally);
     }
-    let raised = Traffic {
-        frames: traffic.frames + 1,
-        hops: traffic.hops + hops,
+    let raised = Tally {
+        frames: tally.frames + 1,
+        hops: tally.hops + hops,
     };
     Walked {
         number: 0,
         arrived: 1,
         hops: hops,
-        traffic: raised,
+        tally: raised,
     }
 }
 
@@ -119,21 +117,21 @@ fn copy_cards(cards: &[u16; LENT_MET], met: &mut [u16])
 }
 
 // A frame's walk: 1, 12, 14, 15. The counts go in and come back; stuck is an answer and changes neither.
-pub fn walk_counted(plan: &[u8], from: u32, goal: u32, traffic: Traffic, met: &mut [u16]) -> Walked
-    ensures says { λ r. ⌜ Walk-says (now (plan .entry)) from goal traffic r (now (met .entry)) (now (met .exit)) ⌝ }
-    ensures arrives { λ r. ⌜ (Frame (now (plan .entry)) from goal (now (met .entry)) → Can-take traffic (hops (plan-wiring (now (plan .entry))) from goal) → Arrived (now (plan .entry)) from goal traffic r (now (met .exit))) ⌝ }
-    ensures full { λ r. ⌜ (Frame (now (plan .entry)) from goal (now (met .entry)) → (Can-take traffic (hops (plan-wiring (now (plan .entry))) from goal) → ⊥) → Full traffic r (now (met .entry)) (now (met .exit))) ⌝ }
+pub fn walk_counted(plan: &[u8], from: u32, goal: u32, tally: Tally, met: &mut [u16]) -> Walked
+    ensures says { λ r. ⌜ Walk-says (now (plan .entry)) from goal tally r (now (met .entry)) (now (met .exit)) ⌝ }
+    ensures arrives { λ r. ⌜ (Frame (now (plan .entry)) from goal (now (met .entry)) → Can-take tally (hops (plan-wiring (now (plan .entry))) from goal) → Arrived (now (plan .entry)) from goal tally r (now (met .exit))) ⌝ }
+    ensures full { λ r. ⌜ (Frame (now (plan .entry)) from goal (now (met .entry)) → (Can-take tally (hops (plan-wiring (now (plan .entry))) from goal) → ⊥) → Full tally r (now (met .entry)) (now (met .exit))) ⌝ }
 {
     if met.len() != LENT_MET {
-        return not_walked(1, traffic);
+        return not_walked(1, tally);
     }
     let sizes = frame_sizes(plan, from, goal);
     if sizes.number != 0 {
-        return not_walked(sizes.number, traffic);
+        return not_walked(sizes.number, tally);
     }
     let ones = ones_table();
     let route = walk_between(&ones, plan, sizes, from as usize, goal as usize);
-    let answer = counted(traffic, route.arrived, route.hops);
+    let answer = counted(tally, route.arrived, route.hops);
     if answer.number != 0 {
         return answer;
     }

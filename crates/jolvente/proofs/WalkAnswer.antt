@@ -9,7 +9,7 @@ use lib.ListN.{length, replicate}
 use borrow.Author.Tests.{eq-eqb, ne-eqb}
 use Rattle.forwarder.specs.Forwarding.{walk}
 use Rattle.forwarder.specs.Calls.{lent-met, walk-hops, walk-refusal, Walk-says}
-use Rattle.forwarder.specs.declared.walk.Traffic.{Traffic}
+use Rattle.forwarder.specs.declared.walk.Tally.{Tally}
 use Rattle.forwarder.specs.declared.walk.Walked.{Walked}
 use Rattle.rack.specs.Buffers.{number32-at}
 use Rattle.jolvente.specs.Records.{lent-record, lent-met-bytes, record-bytes, card-bytes, counts-in}
@@ -27,12 +27,12 @@ module _ (ps : List ℕ) (a b : ℕ) (met rec : List ℕ) where
       record { answer = rw (ne-eqb (length rec) lent-record h, and-false (eqb (length met) lent-met-bytes)) refl; met-left = refl; record-left = refl }
 
   -- THE WALK of a frame, with the record's counts
-  module _ (room : length met ≡ lent-met-bytes) (record-room : length rec ≡ lent-record) (t : Traffic) (frames-in : t .frames ≡ number32-at rec 8)
+  module _ (room : length met ≡ lent-met-bytes) (record-room : length rec ≡ lent-record) (t : Tally) (frames-in : t .frames ≡ number32-at rec 8)
       (hops-in : t .hops ≡ number32-at rec 12) (w : Walked) (cards cards-now : List ℕ) (many : length cards ≡ lent-met)
       (walk-says : Walk-says ps a b t w cards cards-now) where
     s : Walk-says ps a b (counts-in rec) w cards cards-now
     unfolding counts-in
-    s = subst (λ (x : Traffic). Walk-says ps a b x w cards cards-now) (ap₂ (λ (x y : ℕ). record { frames = x; hops = y }) frames-in hops-in) walk-says
+    s = subst (λ (x : Tally). Walk-says ps a b x w cards cards-now) (ap₂ (λ (x y : ℕ). record { frames = x; hops = y }) frames-in hops-in) walk-says
 
     number-is : w .number ≡ c-walk-refusal ps a b (length met) rec
     unfolding c-walk-refusal
@@ -44,7 +44,7 @@ module _ (ps : List ℕ) (a b : ℕ) (met rec : List ℕ) where
     walk-refused n = let e = ne-eqb (w .number) 0 n in record { answer = number-is; met-left = rw e refl; record-left = rw e refl }
 
     pub walk-said : w .number ≡ 0 → (met-now rec-now : List ℕ) → met-now ≡ card-bytes cards-now
-        → rec-now ≡ record-bytes (w .arrived) (w .hops) (w .traffic .frames) (w .traffic .hops) → C-walk-says ps a b 0 met met-now rec rec-now
+        → rec-now ≡ record-bytes (w .arrived) (w .hops) (w .tally .frames) (w .tally .hops) → C-walk-says ps a b 0 met met-now rec rec-now
     unfolding met-bytes walk-record
     walk-said z met-now rec-now met-is rec-is =
         let v = walk ps a b in
@@ -52,7 +52,7 @@ module _ (ps : List ℕ) (a b : ℕ) (met rec : List ℕ) where
         let e = eq-eqb (w .number) 0 z in
         let arrived : w .arrived ≡ v .arrived = rw e at (s .arrived) in
         let walked : w .hops ≡ walk-hops v = rw e at (s .hops) in
-        let frames : w .traffic .frames ≡ t .frames + v .arrived = s .frames ∙ ap (λ (x : ℕ). t .frames + x) arrived in
-        let total : w .traffic .hops ≡ t .hops + v .arrived * walk-hops v = s .total ∙ ap₂ (λ (x y : ℕ). t .hops + x * y) arrived walked in
+        let frames : w .tally .frames ≡ t .frames + v .arrived = s .frames ∙ ap (λ (x : ℕ). t .frames + x) arrived in
+        let total : w .tally .hops ≡ t .hops + v .arrived * walk-hops v = s .total ∙ ap₂ (λ (x y : ℕ). t .hops + x * y) arrived walked in
         let cards : cards-now ≡ v .met ++ replicate (lent-met - length (v .met)) 0 = rw e at (s .met) in
         record { answer = sym z ∙ number-is; met-left = met-is ∙ ap card-bytes cards; record-left = rec-is ∙ rw (arrived, walked, frames, total) refl }

@@ -17,7 +17,7 @@ use Rattle.reader.proofs.Plan.{layout-facts}
 use Rattle.reader.proofs.Promises.{read-measured}
 use Rattle.forwarder.specs.Forwarding.{Walk, walk}
 use Rattle.forwarder.specs.Calls.{lent-met, walk-hops, walk-refusal, Walk-says, Frame, Arrived, Can-take}
-use Rattle.forwarder.specs.declared.walk.Traffic.{Traffic}
+use Rattle.forwarder.specs.declared.walk.Tally.{Tally}
 use Rattle.forwarder.specs.declared.walk.Walked.{Walked}
 use Rattle.forwarder.proofs.Arrival.{walk-arrived, walk-full}
 use Rattle.jolvente.specs.Records.{lent-record, lent-met-bytes, record-bytes, cards-in, counts-in, walked-in}
@@ -41,7 +41,7 @@ padded-below n (x ∷ xs) k h small (suc i) = padded-below n xs k h (λ j. small
 
 module _ (ps : List ℕ) (a b r : ℕ) (met met-now rec rec-now : List ℕ) (s : C-walk-says ps a b r met met-now rec rec-now) (f : C-frame ps a b met rec)
     (old : List ℕ) (many : length old ≡ lent-met) where
-  abbrev t : Traffic
+  abbrev t : Tally
   t = counts-in rec
 
   abbrev v : Walk
@@ -55,7 +55,7 @@ module _ (ps : List ℕ) (a b r : ℕ) (met met-now rec rec-now : List ℕ) (s :
   answer =
       let arrived = cond (eqb r 0) (v .arrived) 0 in
       let walked = cond (eqb r 0) (walk-hops v) 0 in
-      record { number = r; arrived = arrived; hops = walked; traffic = record { frames = t .frames + arrived; hops = t .hops + arrived * walked } }
+      record { number = r; arrived = arrived; hops = walked; tally = record { frames = t .frames + arrived; hops = t .hops + arrived * walked } }
 
   abbrev cards : List ℕ
   cards = v .met ++ replicate (lent-met - length (v .met)) 0

@@ -15,7 +15,7 @@ use Rattle.rack.specs.PlanFile.{plan-cards, plan-links, plan-columns, plan-bit}
 use Rattle.reader.specs.Plan.{plan-refusal}
 use Rattle.forwarder.specs.Forwarding.{Walk, walk}
 use Rattle.forwarder.specs.Calls.{lent-met, walk-hops, walk-refusal}
-use Rattle.forwarder.specs.declared.walk.Traffic.{Traffic}
+use Rattle.forwarder.specs.declared.walk.Tally.{Tally}
 use Rattle.jolvente.specs.Records.{lent-record, lent-met-bytes, record-bytes, card-bytes, counts-in}
 
 -- the number, plus 256 times the link or card that it carries
@@ -61,7 +61,7 @@ c-walk-refusal ps a b n rec =
 unfoldable pub met-bytes : Walk → List ℕ
 met-bytes v = card-bytes (v .met ++ replicate (lent-met - length (v .met)) 0)
 
-unfoldable pub walk-record : Walk → Traffic → List ℕ
+unfoldable pub walk-record : Walk → Tally → List ℕ
 walk-record v t =
     record-bytes (v .arrived) (walk-hops v) (t .frames + v .arrived) (t .hops + v .arrived * walk-hops v)
 

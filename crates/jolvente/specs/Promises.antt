@@ -4,14 +4,14 @@ use mathlib.Core.Bool.{true}
 use mathlib.Core.List.{List}
 use Prim.Native.Nat.{ℕ, suc, _+_, _≤_, _<_}
 use lib.ListN.{length}
-use Rattle.rack.specs.Limits.{lent-plan}
+use Rattle.rack.specs.Limits.{lent-plan, most-traffic}
 use Rattle.rack.specs.Hops.{hops, connected}
 use Rattle.rack.specs.Buffers.{number32-at}
 use Rattle.rack.specs.WiringFile.{file-wiring, form-refusal}
 use Rattle.rack.specs.PlanFile.{plan-cards, plan-wiring}
 use Rattle.reader.specs.Plan.{plan-refusal}
 use Rattle.reader.specs.Promises.{Measured}
-use Rattle.forwarder.specs.Calls.{most-traffic, Arrived}
+use Rattle.forwarder.specs.Calls.{Arrived}
 use Rattle.jolvente.specs.Records.{lent-record, lent-met-bytes, cards-in, counts-in, walked-in}
 use Rattle.jolvente.specs.CCalls.{C-write-says, C-found, C-read-says, C-walk-says, C-full}
 

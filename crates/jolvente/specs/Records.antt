@@ -5,7 +5,7 @@ use lib.ListN.{length, getD}
 use Rattle.rack.specs.Lists.{tabulate, blocks}
 use Rattle.rack.specs.Buffers.{number-at, number32-at, two-bytes, four-bytes}
 use Rattle.forwarder.specs.Calls.{lent-met}
-use Rattle.forwarder.specs.declared.walk.Traffic.{Traffic}
+use Rattle.forwarder.specs.declared.walk.Tally.{Tally}
 use Rattle.forwarder.specs.declared.walk.Walked.{Walked}
 
 abbrev pub lent-record : ℕ
@@ -27,8 +27,8 @@ card-bytes cs = blocks (length cs) (λ i. two-bytes (getD cs i 0))
 unfoldable pub cards-in : List ℕ → List ℕ
 cards-in bs = tabulate lent-met (λ i. number-at bs (2 * i))
 
-unfoldable pub counts-in : List ℕ → Traffic
+unfoldable pub counts-in : List ℕ → Tally
 counts-in bs = record { frames = number32-at bs 8; hops = number32-at bs 12 }
 
 unfoldable pub walked-in : (number : ℕ) → List ℕ → Walked
-walked-in x bs = record { number = x; arrived = number32-at bs 0; hops = number32-at bs 4; traffic = counts-in bs }
+walked-in x bs = record { number = x; arrived = number32-at bs 0; hops = number32-at bs 4; tally = counts-in bs }

@@ -7,7 +7,7 @@ ghost use Rattle.forwarder.specs.Calls.{Arrived, Can-take};
 ghost use Rattle.jolvente.specs.CCalls.{C-asked, C-found, C-frame, C-full, C-read-says, C-walk-says, C-write-says};
 ghost use Rattle.jolvente.specs.Records.{cards-in, counts-in, walked-in};
 use forwarder::walk::LENT_MET;
-use forwarder::walk::Traffic;
+use forwarder::walk::Tally;
 use forwarder::walk::walk_counted;
 use planner::write_plan;
 use rack::bytes::number32_at;
@@ -73,17 +73,17 @@ pub extern "C" fn jolvente_walk(
     if record.len() != LENT_RECORD {
         return 1;
     }
-    let traffic = Traffic {
+    let tally = Tally {
         frames: number32_at(record, 8),
         hops: number32_at(record, 12),
     };
     let mut cards = [0u16; LENT_MET];
-    let w = walk_counted(plan, from, goal, traffic, &mut cards);
+    let w = walk_counted(plan, from, goal, tally, &mut cards);
     if w.number != 0 {
         return w.number;
     }
     put_cards(&cards, met);
-    let t = w.traffic;
+    let t = w.tally;
     put_record(record, w.arrived, w.hops, t.frames, t.hops);
     0
 }

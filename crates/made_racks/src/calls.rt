@@ -6,7 +6,7 @@ use crate::say::words_sum;
 use crossing::places::FirstColumn;
 use crossing::step_frame;
 use crossing::walk_frame;
-use forwarder::walk::Traffic;
+use forwarder::walk::Tally;
 use forwarder::walk::Walked;
 use planner::Answer;
 use planner::plan_rack;
@@ -83,7 +83,7 @@ fn say_crossed(c: FirstColumn) {
 }
 
 fn say_walked(from: u32, goal: u32, w: Walked, met: u32) {
-    let t = w.traffic;
+    let t = w.tally;
     say(
         b"; walk A to B refused C, met sum E, counts F G\
         |; walk A to B stuck, hops D, met sum E, counts F G\
@@ -94,8 +94,8 @@ fn say_walked(from: u32, goal: u32, w: Walked, met: u32) {
 }
 
 // Walks a frame, with counts handed in, in a lent buffer.
-pub fn walked(plan: &[u8], from: u32, goal: u32, traffic: Traffic, met: &mut [u16]) {
-    let f = walk_frame(plan, from, goal, traffic, met);
+pub fn walked(plan: &[u8], from: u32, goal: u32, tally: Tally, met: &mut [u16]) {
+    let f = walk_frame(plan, from, goal, tally, met);
     let w = f.walked;
     say_walked(from, goal, w, cards_sum(met));
     let c = f.crossed;
@@ -103,22 +103,22 @@ pub fn walked(plan: &[u8], from: u32, goal: u32, traffic: Traffic, met: &mut [u1
 }
 
 // The counts after one more frame.
-fn counted(plan: &[u8], from: u32, goal: u32, traffic: Traffic) -> Traffic {
+fn counted(plan: &[u8], from: u32, goal: u32, tally: Tally) -> Tally {
     let mut met = [7u16; 256];
-    let f = walk_frame(plan, from, goal, traffic, &mut met);
+    let f = walk_frame(plan, from, goal, tally, &mut met);
     let w = f.walked;
-    w.traffic
+    w.tally
 }
 
 // The counts after a frame from one card to each of the `n` cards.
-fn counts_to_each(plan: &[u8], n: u32, from: u32) -> Traffic {
-    let mut traffic = Traffic { frames: 0, hops: 0 };
+fn counts_to_each(plan: &[u8], n: u32, from: u32) -> Tally {
+    let mut tally = Tally { frames: 0, hops: 0 };
     let mut goal: u32 = 0;
     while goal < n {
-        traffic = counted(plan, from, goal, traffic);
+        tally = counted(plan, from, goal, tally);
         goal += 1;
     }
-    traffic
+    tally
 }
 
 // Walks a frame from one card to each of the `n` cards.

@@ -8,7 +8,7 @@ use crate::lines::number;
 use crate::lines::number_to;
 use crate::say::say_text;
 use crate::shapes::wiring;
-use forwarder::walk::Traffic;
+use forwarder::walk::Tally;
 use planner::write_plan;
 
 // The plan of a ring, with the byte at a place put anew if there is one.
@@ -33,13 +33,13 @@ fn changed(line: &[u8], plan: &[u8]) {
     say_text(line, 7);
     read(plan);
     stepped(plan, from, goal);
-    walked(plan, from, goal, Traffic { frames: 5, hops: 6 }, &mut met);
+    walked(plan, from, goal, Tally { frames: 5, hops: 6 }, &mut met);
     addressed(plan, goal);
 }
 
 // Walks a frame with counts handed in, and room for some cards.
 fn walk(line: &[u8], plan: &[u8]) {
-    let traffic = Traffic {
+    let tally = Tally {
         frames: number(line, 7),
         hops: number(line, 8),
     };
@@ -50,7 +50,7 @@ fn walk(line: &[u8], plan: &[u8]) {
         plan,
         number(line, 5),
         number(line, 6),
-        traffic,
+        tally,
         &mut met[0..room],
     );
 }

@@ -13,12 +13,12 @@ use crate::say::say_text;
 use crate::shapes::put_link;
 use crate::shapes::put_number;
 use crate::shapes::wiring;
-use forwarder::walk::Traffic;
+use forwarder::walk::Tally;
 
 // Reads a plan, walks one frame on it and one to each card, takes a step, and asks for an address.
 fn used(plan: &[u8], n: u32, from: u32, goal: u32) {
     let mut met = [7u16; 256];
-    let none = Traffic { frames: 0, hops: 0 };
+    let none = Tally { frames: 0, hops: 0 };
     read(plan);
     walked(plan, from, goal, none, &mut met);
     walked_to_each(plan, n, from);

@@ -6,8 +6,9 @@ use mathlib.Core.List.{List, []}
 use Prim.Native.Nat.{ℕ, _+_}
 use native.Mathlib.Omega.{arith}
 use lib.Dec.{eqb}
+use Rattle.rack.specs.Buffers.{Slice-is}
 use Rattle.reader.specs.Promises.{Measured}
-use Rattle.reader.specs.Reading.{Layout-says, Read-says, Slice-is}
+use Rattle.reader.specs.Reading.{Layout-says, Read-says}
 use Rattle.reader.specs.declared.layout.Sizes.{Sizes}
 use Rattle.reader.proofs.Reading.{says-layout, says-laid-out, says-no-layout}
 use Rattle.opened.specs.Opening.{carries, carried-bytes, Opening-says}

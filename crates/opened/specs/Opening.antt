@@ -5,14 +5,15 @@ use mathlib.Core.List.{List, []}
 use Prim.Native.Nat.{ℕ}
 use lib.Dec.{eqb}
 use denote.Ref.{now}
+use Rattle.rack.specs.Buffers.{Slice-is}
 use Rattle.rack.specs.Hops.{hops}
 use Rattle.rack.specs.PlanFile.{plan-cards, plan-links, plan-columns, plan-wiring}
 use Rattle.reader.specs.Plan.{layout-holds, plan-refusal}
 use Rattle.reader.specs.Promises.{Measured}
-use Rattle.reader.specs.Reading.{Slice-is, Read-says}
+use Rattle.reader.specs.Reading.{Read-says}
 use Rattle.reader.specs.declared.layout.Sizes.{Sizes}
 use Rattle.forwarder.specs.Calls.{Frame, Arrived, Full, Can-take}
-use Rattle.forwarder.specs.declared.walk.Traffic.{Traffic}
+use Rattle.forwarder.specs.declared.walk.Tally.{Tally}
 use Rattle.crossing.specs.Crossing.{Frame-walk-says}
 use Rattle.crossing.specs.declared.FrameWalk.{FrameWalk}
 use Rattle.opened.specs.declared.Opened.{Opened}
@@ -43,7 +44,7 @@ pub record Read-with-promise (ps : List ℕ) (r : Sizes) : Type 0 where
   pub promise : r .number ≡ 0 → Measured ps
 
 -- a walk, with demand 3 (docs/REQUIREMENTS.md): a frame that the counts can take arrives by the fewest links, and any other is 15
-pub record Walk-with-arrival (ps : List ℕ) (a b : ℕ) (t : Traffic) (r : FrameWalk) (old new : List ℕ) : Type 0 where
+pub record Walk-with-arrival (ps : List ℕ) (a b : ℕ) (t : Tally) (r : FrameWalk) (old new : List ℕ) : Type 0 where
   pub says : Frame-walk-says ps a b t r old new
   pub arrives : Frame ps a b old → Can-take t (hops (plan-wiring ps) a b) → Arrived ps a b t (r .walked) new
   pub full : Frame ps a b old → (Can-take t (hops (plan-wiring ps) a b) → ⊥) → Full t (r .walked) old new

@@ -5,12 +5,13 @@ use mathlib.Core.List.{List, []}
 use mathlib.Core.Logic.{_↔_, _≢_}
 use Prim.Native.Nat.{ℕ, _≤_}
 use denote.Ref.{RefT, now}
+use Rattle.rack.specs.Buffers.{Slice-is}
 use Rattle.rack.specs.Hops.{hops}
 use Rattle.rack.specs.PlanFile.{plan-cards, plan-links, plan-columns, plan-wiring}
 use Rattle.reader.specs.Plan.{layout-holds, plan-refusal}
-use Rattle.reader.specs.Reading.{address-part, address-refusal, Slice-is, Address-says}
+use Rattle.reader.specs.Reading.{address-part, address-refusal, Address-says}
 use Rattle.forwarder.specs.Calls.{step-refusal, lent-met, walk-refusal, Frame, Arrived, Can-take}
-use Rattle.forwarder.specs.declared.walk.Traffic.{Traffic}
+use Rattle.forwarder.specs.declared.walk.Tally.{Tally}
 use Rattle.crossing.specs.Crossing.{Frame-step-says, Frame-walk-says}
 use Rattle.crossing.specs.declared.FrameStep.{FrameStep}
 use Rattle.crossing.specs.declared.FrameWalk.{FrameWalk}
@@ -48,7 +49,7 @@ pub record Twelve-in-every-call (ps : List ℕ) : Type 0 where
   pub address : (c : ℕ) → address-refusal ps c ≡ 12
   pub part : (c : ℕ) → address-part ps c ≡ []
   pub step : (a b : ℕ) → step-refusal ps a b ≡ 12
-  pub walk : (a b : ℕ) (t : Traffic) → walk-refusal ps a b t lent-met ≡ 12
+  pub walk : (a b : ℕ) (t : Tally) → walk-refusal ps a b t lent-met ≡ 12
   pub conference : (a b c : ℕ) → conference-refusal ps a b c ≡ 12
 
 -- a refused opening, and sizes that differ from those in the bytes
@@ -61,7 +62,7 @@ Other-sizes = (p : Opened) → (Sizes-carried p → ⊥) → Twelve-in-every-cal
 -- demand 3: a frame whose plan was read, and whose carried sizes are those in the bytes, arrives by the fewest links
 unfoldable pub Opened-frame-arrives : Type 0
 Opened-frame-arrives =
-    (p : Opened) (a b : ℕ) (t : Traffic) (r : FrameWalk) (old new : List ℕ) →
+    (p : Opened) (a b : ℕ) (t : Tally) (r : FrameWalk) (old new : List ℕ) →
     Sizes-carried p → Frame (now (p .bytes)) a b old → Can-take t (hops (plan-wiring (now (p .bytes))) a b) →
     Walk-with-arrival (opened-bytes p) a b t r old new → Arrived (now (p .bytes)) a b t (r .walked) new
 
@@ -74,7 +75,7 @@ Opened-step-own =
 
 unfoldable pub Opened-walk-own : Type 0
 Opened-walk-own =
-    (p : Opened) (a b : ℕ) (t : Traffic) (r : FrameWalk) (old new : List ℕ) → layout-holds (now (p .bytes)) ≡ true → Sizes-carried p →
+    (p : Opened) (a b : ℕ) (t : Tally) (r : FrameWalk) (old new : List ℕ) → layout-holds (now (p .bytes)) ≡ true → Sizes-carried p →
     Walk-with-arrival (opened-bytes p) a b t r old new → Frame-walk-says (now (p .bytes)) a b t r old new
 
 -- three cards of a plan that was read, and whose carried sizes are those in the bytes, get the answer of the plan's own bytes

@@ -4,7 +4,8 @@ ghost use mathlib.Core.Path.{_≡_};
 ghost use mathlib.Core.Bool.{cond};
 ghost use mathlib.Core.List.{[]};
 ghost use lib.Dec.{eqb};
-ghost use Rattle.reader.specs.Reading.{Slice-is, Address-says, address-refusal};
+ghost use Rattle.rack.specs.Buffers.{Slice-is};
+ghost use Rattle.reader.specs.Reading.{Address-says, address-refusal};
 ghost use Rattle.crossing.specs.Crossing.{Frame-step-says};
 ghost use Rattle.conference.specs.Conference.{Card-or-none, Conference-says};
 ghost use Rattle.opened.specs.Opening.{carries, carried-bytes, Read-with-promise, Walk-with-arrival};
@@ -14,7 +15,7 @@ use crossing::FrameStep;
 use crossing::FrameWalk;
 use crossing::step_frame;
 use crossing::walk_frame;
-use forwarder::walk::Traffic;
+use forwarder::walk::Tally;
 use reader::layout::Sizes;
 use reader::layout::plan_layout;
 use reader::read::card_address;
@@ -117,16 +118,16 @@ pub fn walk_carried(
     columns: u32,
     from: u32,
     goal: u32,
-    traffic: Traffic,
+    tally: Tally,
     met: &mut [u16],
 ) -> FrameWalk
-    ensures { λ r. ⌜ Walk-with-arrival (carried-bytes (now (bytes .entry)) cards links columns) from goal traffic r (now (met .entry)) (now (met .exit)) ⌝ }
+    ensures { λ r. ⌜ Walk-with-arrival (carried-bytes (now (bytes .entry)) cards links columns) from goal tally r (now (met .entry)) (now (met .exit)) ⌝ }
 {
     walk_frame(
         carried_bytes(bytes, cards, links, columns),
         from,
         goal,
-        traffic,
+        tally,
         met,
     )
 }

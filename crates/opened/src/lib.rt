@@ -14,7 +14,7 @@ use crate::carried::walk_carried;
 use conference::Conference;
 use crossing::FrameStep;
 use crossing::FrameWalk;
-use forwarder::walk::Traffic;
+use forwarder::walk::Tally;
 use reader::layout::Sizes;
 use reader::read::read_plan;
 
@@ -74,8 +74,8 @@ impl<'a> Opened<'a> {
     }
 
     // A frame's walk, with the first column that it crosses: 1, 12, 14, 15. The counts go in and come back; stuck is an answer and changes neither.
-    pub fn walk(self, from: u32, goal: u32, traffic: Traffic, met: &mut [u16]) -> FrameWalk
-        ensures { λ r. ⌜ Walk-with-arrival (opened-bytes (self .entry)) from goal traffic r (now (met .entry)) (now (met .exit)) ⌝ }
+    pub fn walk(self, from: u32, goal: u32, tally: Tally, met: &mut [u16]) -> FrameWalk
+        ensures { λ r. ⌜ Walk-with-arrival (opened-bytes (self .entry)) from goal tally r (now (met .entry)) (now (met .exit)) ⌝ }
     {
         walk_carried(
             self.bytes,
@@ -84,7 +84,7 @@ impl<'a> Opened<'a> {
             self.columns,
             from,
             goal,
-            traffic,
+            tally,
             met,
         )
     }

@@ -1,8 +1,10 @@
--- Numbers of 16 and 32 bits in bytes, and lent buffers that are written from their start on. Assumes nothing: these are definitions.
+-- Numbers of 16 and 32 bits in bytes, lent buffers that are written from their start on, and parts of them. Assumes nothing: these are
+-- definitions.
 use mathlib.Core.Path.{_≡_}
 use mathlib.Core.List.{List, [], _∷_, _++_}
 use Prim.Native.Nat.{ℕ, suc, _+_, _*_, _-_, _/_, _%_, _≤_}
 use lib.ListN.{length, getD, replicate}
+use denote.Ref.{RefT, now}
 
 -- the number of 16 bits at a place, low byte first
 unfoldable pub number-at : List ℕ → (i : ℕ) → ℕ
@@ -28,3 +30,8 @@ pub record Written (out xs : List ℕ) : Type 0 where
 -- what a function appends to a buffer that is written up to `at`
 abbrev pub Appends : (at : ℕ) → (old new xs : List ℕ) → Type 0
 Appends at old new ys = (xs : List ℕ) → length xs ≡ at → Written old xs → Written new (xs ++ ys)
+
+-- the slice that begins at this place, a block of memory and an offset in it, and has these bytes
+pub record Slice-is (at : ℕ × ℕ) (bs : List ℕ) (r : RefT (List ℕ)) : Type 0 where
+  pub place : r .ptr ≡ at
+  pub bytes : now r ≡ bs

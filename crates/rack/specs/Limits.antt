@@ -1,4 +1,5 @@
--- How large a rack may be, and the lengths of the buffers that planning is lent. Assumes nothing: these are definitions.
+-- How large a rack may be, how many callers share it, how far its traffic is counted, and the lengths of the buffers that planning is lent.
+-- Assumes nothing: these are definitions.
 use Prim.Native.Nat.{ℕ}
 
 abbrev pub most-cards : ℕ
@@ -9,6 +10,14 @@ most-links = 2048
 
 abbrev pub most-columns : ℕ
 most-columns = 255
+
+-- callers 0 to 15
+abbrev pub most-callers : ℕ
+most-callers = 16
+
+-- a traffic count is 32 bits wide
+abbrev pub most-traffic : ℕ
+most-traffic = 4294967295
 
 -- four words a card
 abbrev pub lent-words : ℕ

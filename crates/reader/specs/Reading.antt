@@ -5,8 +5,9 @@ use mathlib.Core.List.{List, []}
 use Prim.Native.Nat.{ℕ, _+_, _*_, _/_, _%_, _≤_}
 use lib.Dec.{leb, eqb}
 use lib.ListN.{length, getD, take, drop}
-use denote.Ref.{RefT, now}
+use denote.Ref.{RefT}
 use Rattle.rack.specs.Bits.{number-bit}
+use Rattle.rack.specs.Buffers.{Slice-is}
 use Rattle.rack.specs.Limits.{most-cards, most-links, most-columns}
 use Rattle.rack.specs.PlanFile.{plan-cards, plan-links, plan-columns, address-size, addresses-start, address-start}
 use Rattle.reader.specs.Plan.{layout-holds, plan-refusal}
@@ -58,11 +59,6 @@ address-part ps c = cond (eqb (address-refusal ps c) 0) (take (address-size (pla
 -- how far behind the plan's first byte that part begins; with a refusal nothing is handed out, from the plan's first byte on
 unfoldable pub address-offset : List ℕ → (card : ℕ) → ℕ
 address-offset ps c = cond (eqb (address-refusal ps c) 0) (address-start ps c) 0
-
--- the slice that begins at this place, a block of memory and an offset in it, and has these bytes
-pub record Slice-is (at : ℕ × ℕ) (bs : List ℕ) (r : RefT (List ℕ)) : Type 0 where
-  pub place : r .ptr ≡ at
-  pub bytes : now r ≡ bs
 
 -- "A card's address is handed out as that part of the plan's own bytes" (docs/REQUIREMENTS.md): of those of a plan that begins at this place
 abbrev pub Address-says : (ps : List ℕ) (at : ℕ × ℕ) (card : ℕ) → RefT (List ℕ) → Type 0

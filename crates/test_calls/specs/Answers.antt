@@ -10,7 +10,7 @@ use Rattle.planner.specs.declared.Answer.{Answer}
 use Rattle.reader.specs.Plan.{plan-refusal}
 use Rattle.reader.specs.declared.layout.Sizes.{Sizes}
 use Rattle.forwarder.specs.Calls.{step-refusal}
-use Rattle.forwarder.specs.declared.walk.Traffic.{Traffic}
+use Rattle.forwarder.specs.declared.walk.Tally.{Tally}
 use Rattle.crossing.specs.Crossing.{Places-are}
 use Rattle.crossing.specs.declared.FrameStep.{FrameStep}
 use Rattle.crossing.specs.declared.FrameWalk.{FrameWalk}
@@ -35,13 +35,13 @@ places-in ys = record { count = getD ys 0 0; first = column-in 1 ys }
 abbrev pub frame-step-in : (number : ℕ) → List ℕ → FrameStep
 frame-step-in x ys = record { stepped = record { number = x; outcome = getD ys 0 0; link = getD ys 1 0; far = getD ys 2 0 }; crossed = column-in 3 ys }
 
-abbrev pub counts : (frames hops : ℕ) → Traffic
+abbrev pub counts : (frames hops : ℕ) → Tally
 counts f h = record { frames = f; hops = h }
 
 abbrev pub frame-walk-in : (number : ℕ) → List ℕ → FrameWalk
 frame-walk-in x ys =
     record {
-      walked = record { number = x; arrived = getD ys 0 0; hops = getD ys 1 0; traffic = counts (getD ys 2 0) (getD ys 3 0) };
+      walked = record { number = x; arrived = getD ys 0 0; hops = getD ys 1 0; tally = counts (getD ys 2 0) (getD ys 3 0) };
       crossed = column-in 4 ys;
     }
 

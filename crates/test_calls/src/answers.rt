@@ -57,7 +57,7 @@ pub fn put_walk(f: FrameWalk, answer: &mut [u32]) -> u32
     ensures { λ r. ⌜ frame-walk-in r (now (answer .exit)) ≡ f ⌝ }
 {
     let w = f.walked;
-    let t = w.traffic;
+    let t = w.tally;
     let c = f.crossed;
     put_fields(
         &[w.arrived, w.hops, t.frames, t.hops, c.found, c.column],

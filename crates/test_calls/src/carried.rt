@@ -9,7 +9,7 @@ use crate::answers::put_conference;
 use crate::answers::put_sizes;
 use crate::answers::put_step;
 use crate::answers::put_walk;
-use forwarder::walk::Traffic;
+use forwarder::walk::Tally;
 use opened::carried::address_carried;
 use opened::carried::address_refusal_carried;
 use opened::carried::conference_carried;
@@ -104,12 +104,12 @@ pub extern "C" fn test_walk_carried(
     if answer.len() != 6 {
         return 1;
     }
-    let traffic = Traffic {
+    let tally = Tally {
         frames: frames,
         hops: hops,
     };
     put_walk(
-        walk_carried(bytes, cards, links, columns, from, goal, traffic, met),
+        walk_carried(bytes, cards, links, columns, from, goal, tally, met),
         answer,
     )
 }

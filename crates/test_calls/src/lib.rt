@@ -21,7 +21,7 @@ use crossing::places::plan_places;
 use crossing::step_frame;
 use crossing::walk_frame;
 use forwarder::step::frame_sizes;
-use forwarder::walk::Traffic;
+use forwarder::walk::Tally;
 use last_card::add_card;
 use last_card::take_card_off;
 use listing_text::listing_text;
@@ -121,11 +121,11 @@ pub extern "C" fn test_walk_frame(
     if answer.len() != 6 {
         return 1;
     }
-    let traffic = Traffic {
+    let tally = Tally {
         frames: frames,
         hops: hops,
     };
-    put_walk(walk_frame(plan, from, goal, traffic, met), answer)
+    put_walk(walk_frame(plan, from, goal, tally, met), answer)
 }
 
 // A conference card: 1, 12, 13, 14. The fields are 1 for a card or 0 for none, and the card.

@@ -6,7 +6,7 @@ use crate::answers::put_step;
 use crate::answers::put_walk;
 use crossing::FrameStep;
 use crossing::FrameWalk;
-use forwarder::walk::Traffic;
+use forwarder::walk::Tally;
 use opened::open_plan;
 
 // Opens a plan and steps on it.
@@ -17,10 +17,10 @@ fn open_and_step(bytes: &[u8], from: u32, goal: u32) -> FrameStep
 }
 
 // Opens a plan and walks on it.
-fn open_and_walk(bytes: &[u8], from: u32, goal: u32, traffic: Traffic, met: &mut [u16]) -> FrameWalk
-    ensures { λ r. ⌜ Frame-walk-says (opened-for (now (bytes .entry))) from goal traffic r (now (met .entry)) (now (met .exit)) ⌝ }
+fn open_and_walk(bytes: &[u8], from: u32, goal: u32, tally: Tally, met: &mut [u16]) -> FrameWalk
+    ensures { λ r. ⌜ Frame-walk-says (opened-for (now (bytes .entry))) from goal tally r (now (met .entry)) (now (met .exit)) ⌝ }
 {
-    open_plan(bytes).walk(from, goal, traffic, met)
+    open_plan(bytes).walk(from, goal, tally, met)
 }
 
 // A step on an opened plan: 1, 12, 14.
@@ -50,9 +50,9 @@ pub extern "C" fn test_opened_walk(
     if answer.len() != 6 {
         return 1;
     }
-    let traffic = Traffic {
+    let tally = Tally {
         frames: frames,
         hops: hops,
     };
-    put_walk(open_and_walk(bytes, from, goal, traffic, met), answer)
+    put_walk(open_and_walk(bytes, from, goal, tally, met), answer)
 }

@@ -43,8 +43,9 @@ use denote.Triple.Table.{entered, cited}
 use denote.Triple.Walked.{says, Stays, stay-none-slice, walkOf, goes-none-slice, Walks, ends-at, walked, walk-meets}
 use denote.Exit.{yes}
 use denote.Triple.Clauses.{ensured, lasts}
+use Rattle.rack.specs.Buffers.{Slice-is}
 use Rattle.reader.specs.Promises.{Measured}
-use Rattle.reader.specs.Reading.{Slice-is, Read-says}
+use Rattle.reader.specs.Reading.{Read-says}
 use Rattle.reader.specs.declared.layout.Sizes.{Sizes}
 use Rattle.reader.proofs.layout.Sizes as S
 use Rattle.reader.proofs.layout.Sizes.Laws as S′

@@ -5,10 +5,10 @@ use Rattle.made_racks.proofs.calls.counts_to_each.Statement.{statement}
 use Rattle.made_racks.proofs.calls.counts_to_each.Tie as tie
 
 abbrev Inv-loop : tie.InvT-loop
-Inv-loop plan n from traffic₀ goal₀ traffic goal = goal ≤ n
+Inv-loop plan n from tally₀ goal₀ tally goal = goal ≤ n
 
 abbrev μ-loop : tie.MeasureT-loop
-μ-loop plan n from traffic₀ goal₀ traffic goal = n - goal
+μ-loop plan n from tally₀ goal₀ tally goal = n - goal
 
 loop-holds : tie.Need-loop-holds Inv-loop μ-loop
 loop-holds c = search needs

@@ -32,9 +32,9 @@ use Rattle.opened.proofs.Held.{bytes-value}
 use Rattle.opened.proofs.Methods.{number-slot, Typed-plan, Takes-apart, method-meets}
 use Rattle.crossing.proofs.FrameWalk as Y
 use Rattle.crossing.proofs.FrameWalk.Laws as Y′
-use Rattle.forwarder.specs.declared.walk.Traffic.{Traffic}
-use Rattle.forwarder.proofs.walk.Traffic as X
-use Rattle.forwarder.proofs.walk.Traffic.Laws as X′
+use Rattle.forwarder.specs.declared.walk.Tally.{Tally}
+use Rattle.forwarder.proofs.walk.Tally as X
+use Rattle.forwarder.proofs.walk.Tally.Laws as X′
 use Rattle.opened.proofs.carried.walk_carried as callee
 use Rattle.opened.proofs.carried.walk_carried.Symbol as callee-def
 use Rattle.opened.proofs.carried.walk_carried.Symbol.{name as #opened·carried·walk-carried}
@@ -45,15 +45,15 @@ use Rattle.opened.proofs.Opened.walk.Statement as stated
 use Rattle.opened.proofs.Opened.walk.Code as code
 
 module _ {M : Type 1} (𝓤 : URA M) (H : Heap 𝓤) (A : Atoms 𝓤) (W : Given 𝓤 H A) (C : Calls 𝓤 H) (Λ : Loops 𝓤 H) (fm : FmC 𝓤 H (W .laws) C)
-    (d : Opened) (origin goal : ℕ) (traffic : Traffic) (b o : ℕ) (ys : List ℕ) where
+    (d : Opened) (origin goal : ℕ) (tally : Tally) (b o : ℕ) (ys : List ℕ) where
   -- the machine values of the other parameters, and of what the function is passed
   abbrev others : List Val
-  others = vint w32 origin ∷ vint w32 goal ∷ X′.lowered traffic ∷ sliceVal (b, o) (length ys) ∷ []
+  others = vint w32 origin ∷ vint w32 goal ∷ X′.lowered tally ∷ sliceVal (b, o) (length ys) ∷ []
 
   abbrev passed : List Val
   passed = bytes-value d ∷ vint w32 (d .cards) ∷ vint w32 (d .links) ∷ vint w32 (d .columns) ∷ others
 
-  walk : Typed-plan d → origin < 2 ^ 32 → goal < 2 ^ 32 → Is X.the-row traffic (X′.lowered traffic ∷ []) → Room u16 (length ys)
+  walk : Typed-plan d → origin < 2 ^ 32 → goal < 2 ^ 32 → Is X.the-row tally (X′.lowered tally ∷ []) → Room u16 (length ys)
       → Takes-apart 𝓤 H (WpFn 𝓤 H C Λ code.function) (C #opened·carried·walk-carried) d others Y.the-row
   walk wt ok₀ ok₁ ok₂ room Q K h =
       qed W (raw (C #opened·carried·walk-carried passed Q) ∷ []) ∵
@@ -62,7 +62,7 @@ module _ {M : Type 1} (𝓤 : URA M) (H : Heap 𝓤) (A : Atoms 𝓤) (W : Given
       alloc1 ! (λ l₈. alloc1 ! (λ l₉. alloc1 ! (λ l₁₀. alloc1 ! (λ l₁₁.
       alloc0 ! $ params1 ! $ pass1 ! (init ! 20 refl wt) $ pass1 ! (init ! 18 refl (tt, record { fits = ok₀ })) $
       pass1 ! (init ! 16 refl (tt, record { fits = ok₁ })) $
-      pass1 ! (init ! 14 refl (LL.lawful X.the-type X′.the-laws 𝓤 H A W .typed traffic _ ok₂ .0)) $
+      pass1 ! (init ! 14 refl (LL.lawful X.the-type X′.the-laws 𝓤 H A W .typed tally _ ok₂ .0)) $
       pass1 ! (init ! 12 refl (tt, (tt, (record { fits = room .0 }, tt)))) $
       pass0 ! $
       assigns ! (of-opd ! (load ! (from ! (fld ! refl (stop !))) (look-in ! 20 (sub ! 0 refl (whole !))))) (from ! (stop !))

@@ -44,10 +44,10 @@ use denote.Triple.Walked.{Walks, ends-at, walked, walk-meets}
 use denote.Exit.{yes}
 use denote.Triple.Clauses.{Lasts, ensured, lasts}
 use Rattle.crossing.specs.Crossing.{Frame-walk-says}
-use Rattle.forwarder.specs.declared.walk.Traffic.{Traffic}
+use Rattle.forwarder.specs.declared.walk.Tally.{Tally}
 use Rattle.crossing.specs.declared.FrameWalk.{FrameWalk}
-use Rattle.forwarder.proofs.walk.Traffic as X
-use Rattle.forwarder.proofs.walk.Traffic.Laws as X′
+use Rattle.forwarder.proofs.walk.Tally as X
+use Rattle.forwarder.proofs.walk.Tally.Laws as X′
 use Rattle.crossing.proofs.FrameWalk as Y
 use Rattle.crossing.proofs.FrameWalk.Laws as Y′
 use Rattle.opened.specs.Opening.{opened-bytes, Walk-with-arrival}
@@ -86,8 +86,8 @@ module _ {M : Type 1} (𝓤 : URA M) (H : Heap 𝓤) (A : Atoms 𝓤) (mem : Mem
   Walks-on = tripleOf 𝓤 H A walks.signature (walks.spec 𝓤 H A mem run)
 
 module _ {M : Type 1} (𝓤 : URA M) (H : Heap 𝓤) (A : Atoms 𝓤) (W : Given 𝓤 H A) (mem : Memory → SProp 𝓤) (run : Routine → Fun 𝓤)
-    (κ κ′ : Lft) (q q′ : Share) (s : RefT (List ℕ)) (origin : ℕ) (ok₀ : origin < 2 ^ 32) (goal : ℕ) (ok₁ : goal < 2 ^ 32) (traffic : Traffic)
-    (ok₂ : Is X.the-row traffic (X′.lowered traffic ∷ [])) (b o : ℕ) (γ : GName) (ys : List ℕ) where
+    (κ κ′ : Lft) (q q′ : Share) (s : RefT (List ℕ)) (origin : ℕ) (ok₀ : origin < 2 ^ 32) (goal : ℕ) (ok₁ : goal < 2 ^ 32) (tally : Tally)
+    (ok₂ : Is X.the-row tally (X′.lowered tally ∷ [])) (b o : ℕ) (γ : GName) (ys : List ℕ) where
   -- the lent numbers, and their machine value
   abbrev x : RefT (List ℕ)
   x = record { ptr = (b, o); name = γ; now = ys }
@@ -96,11 +96,11 @@ module _ {M : Type 1} (𝓤 : URA M) (H : Heap 𝓤) (A : Atoms 𝓤) (W : Given
   x-at = sliceVal (b, o) (length ys)
 
   -- the parameters behind the first, and their machine values
-  abbrev others : ℕ × (ℕ × (Traffic × (RefT (List ℕ) × Unit {0})))
-  others = (origin, (goal, (traffic, (x, tt))))
+  abbrev others : ℕ × (ℕ × (Tally × (RefT (List ℕ) × Unit {0})))
+  others = (origin, (goal, (tally, (x, tt))))
 
   abbrev others-at : List Val × (List Val × (List Val × (List Val × Unit {0})))
-  others-at = (vint w32 origin ∷ [], (vint w32 goal ∷ [], (X′.lowered traffic ∷ [], (x-at ∷ [], tt))))
+  others-at = (vint w32 origin ∷ [], (vint w32 goal ∷ [], (X′.lowered tally ∷ [], (x-at ∷ [], tt))))
 
   -- the parameters, and their machine values
   abbrev args : Args this.signature (κ, (κ′, tt))
@@ -147,7 +147,7 @@ module _ {M : Type 1} (𝓤 : URA M) (H : Heap 𝓤) (A : Atoms 𝓤) (W : Given
   to-walks d u = (((κ, (κ′, tt)), (q, (q′, tt)), tt, (d, others), (u ∷ [], others-at)), tt)
 
   abbrev Is-walked : Opened → FrameWalk → List ℕ → Type 0
-  Is-walked d r zs = Walk-with-arrival (opened-bytes d) origin goal traffic r ys zs
+  Is-walked d r zs = Walk-with-arrival (opened-bytes d) origin goal tally r ys zs
 
   goes-walks : (d : Opened) (u : Val)
       → ent 𝓤 (⋆ 𝓤 H A (‵ (B (κ, (κ′, tt)) .own d (u ∷ [])) ∷ (‵ (flft κ q) ⊛ ‵ ftrue) ∷ ‵ (flft κ′ q′) ∷ ‵ Lent ∷ []))
@@ -157,7 +157,7 @@ module _ {M : Type 1} (𝓤 : URA M) (H : Heap 𝓤) (A : Atoms 𝓤) (W : Given
       move ! (1 ∷ []) $ split ! $ move ! (3 ∷ 1 ∷ []) $ join ! $ move ! (1 ∷ 0 ∷ []) $ join ! $
       -- [the tokens; what the struct owns; what the lent numbers own]
       move ! (2 ∷ []) $ nothing ! $ move ! (1 ∷ 0 ∷ []) $ fjoin ! $
-      owned ! X.the-row (Is X.the-row) (LL.makes X.the-type X′.the-plain 𝓤 H A) traffic _ ok₂ $ fjoin ! $ number-owned ! goal ok₁ $
+      owned ! X.the-row (Is X.the-row) (LL.makes X.the-type X′.the-plain 𝓤 H A) tally _ ok₂ $ fjoin ! $ number-owned ! goal ok₁ $
       number-owned ! origin ok₀ $ move ! (2 ∷ 0 ∷ []) $ fjoin ! $ move ! (1 ∷ 0 ∷ []) $ join ! $ frame ! $ done !
 
   exits : (d : Opened) (r : FrameWalk) (u : Val) (zs : List ℕ) → Is-opened s d → Is-walked d r zs → length zs ≡ length ys → ent 𝓤
@@ -166,24 +166,24 @@ module _ {M : Type 1} (𝓤 : URA M) (H : Heap 𝓤) (A : Atoms 𝓤) (W : Given
       qed W (‵ (R .own r (u ∷ [])) ∷ (‵ (flft κ q) ⊛ ‵ (flft κ′ q′) ⊛ ‵ ftrue) ∷ ‵ Own ∷ ‵ (finally u16 γ zs) ∷ []) ∵
       suffices ! _ (ends-at 𝓤 H A this.ended stayed (this.clauses 𝓤 H A mem run) W (((κ, (κ′, tt)), (q, (q′, tt)), tt, args, at), tt) u r
       (tt, (tt, (tt, (tt, (zs, tt))))) (tt, (tt, (tt, (tt, (l, tt)))))) $
-      says ! (subst (λ (bs : List ℕ). Frame-walk-says bs origin goal traffic r ys zs) (opened-seen (now s) (s .ptr) d e) (e′ .says)) $
+      says ! (subst (λ (bs : List ℕ). Frame-walk-says bs origin goal tally r ys zs) (opened-seen (now s) (s .ptr) d e) (e′ .says)) $
       move ! (1 ∷ []) $ frame ! $ nothing ! $ move ! (3 ∷ 0 ∷ []) $ fjoin ! $
-      owned ! X.the-row (Is X.the-row) (LL.makes X.the-type X′.the-plain 𝓤 H A) traffic _ ok₂ $ fjoin ! $ number-owned ! goal ok₁ $
+      owned ! X.the-row (Is X.the-row) (LL.makes X.the-type X′.the-plain 𝓤 H A) tally _ ok₂ $ fjoin ! $ number-owned ! goal ok₁ $
       number-owned ! origin ok₀ $ move ! (2 ∷ 0 ∷ []) $ fjoin ! $ frame ! $ done !
 
   module _ (C : Calls 𝓤 H) (Λ : Loops 𝓤 H) (fm : FmC 𝓤 H (W .laws) C) (known-opens : Triple 𝓤 (C #opened·open-plan) (Opens 𝓤 H A mem run))
       (known-walks : Triple 𝓤 (C #opened·Opened·walk) (Walks-on 𝓤 H A mem run)) where
     walk : Is (ShrSlice (named 0) κ u8) s (bytes-at s ∷ []) → Room u16 (length ys)
         → ent 𝓤 (onEntry 𝓤 H A this.signature (κ, (κ′, tt)) (q, (q′, tt)) args at)
-        (WpFn 𝓤 H C Λ code.function (bytes-at s ∷ vint w32 origin ∷ vint w32 goal ∷ X′.lowered traffic ∷ x-at ∷ []) Post)
+        (WpFn 𝓤 H C Λ code.function (bytes-at s ∷ vint w32 origin ∷ vint w32 goal ∷ X′.lowered tally ∷ x-at ∷ []) Post)
     walk p room =
         qed W (raw (onEntry 𝓤 H A this.signature (κ, (κ′, tt)) (q, (q′, tt)) args at) ∷ []) ∵
-        enter ! C Λ code.function (bytes-at s ∷ vint w32 origin ∷ vint w32 goal ∷ X′.lowered traffic ∷ x-at ∷ []) _ $
+        enter ! C Λ code.function (bytes-at s ∷ vint w32 origin ∷ vint w32 goal ∷ X′.lowered tally ∷ x-at ∷ []) _ $
         alloc1 ! (λ l₀. alloc1 ! (λ l₁. alloc1 ! (λ l₂. alloc1 ! (λ l₃. alloc1 !
         (λ l₄. alloc1 ! (λ l₅. alloc1 ! (λ l₆. alloc1 ! (λ l₇. alloc1 ! (λ l₈. alloc0 ! $ params1 ! $
         pass1 ! (init ! 14 refl (shr-slice-lawful 𝓤 H A W (named 0) κ u8 .typed s (bytes-at s ∷ []) p .0)) $
         pass1 ! (init ! 12 refl (tt, record { fits = ok₀ })) $ pass1 ! (init ! 10 refl (tt, record { fits = ok₁ })) $
-        pass1 ! (init ! 8 refl (LL.lawful X.the-type X′.the-laws 𝓤 H A W .typed traffic _ ok₂ .0)) $
+        pass1 ! (init ! 8 refl (LL.lawful X.the-type X′.the-laws 𝓤 H A W .typed tally _ ok₂ .0)) $
         pass1 ! (init ! 6 refl (tt, (tt, (record { fits = room .0 }, tt)))) $ pass0 ! $
         -- the opened plan, into _6
         move ! (18 ∷ []) $ use1 W (raw (Opens 𝓤 H A mem run .pre to) ⊛ (‵ Own ⊛ (‵ (flft κ′ q′) ⊛ ‵ Lent))) goes-opens $ split ! $
