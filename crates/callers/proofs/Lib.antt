@@ -1,0 +1,4 @@
+pub mod Refused
+pub mod Answers
+pub mod Delivery
+pub mod Promises

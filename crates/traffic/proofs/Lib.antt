@@ -1,0 +1,2 @@
+pub mod CallerRefusal
+pub mod Promises
