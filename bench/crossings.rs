@@ -66,7 +66,7 @@ fn times(frame: &Frame, call: fn(&Frame)) -> [f64; 2] {
 fn c_walk(frame: &Frame) {
     let (mut met, mut record) = ([0; MET_BYTES], [0; RECORD_BYTES]);
     let (from, to) = frame.ends;
-    black_box(calls::walk(&frame.plan, from, to, &mut met, &mut record));
+    black_box(calls::walk(&frame.plan, from, to, 0, &mut met, &mut record));
 }
 
 fn step(frame: &Frame) {

@@ -1,5 +1,8 @@
 //! Times calls that C has not, by the library for the tests, and prints a table of each.
 
+mod caller_walks;
+#[path = "../tests/callers.rs"]
+mod callers;
 #[path = "../tests/calls.rs"]
 #[allow(dead_code)]
 mod calls;
@@ -24,6 +27,8 @@ mod second;
 
 fn main() {
     crossings::print_table();
+    println!();
+    caller_walks::print_table();
     println!();
     conferences::print_table();
     println!();

@@ -11,7 +11,7 @@ const SAMPLES: u32 = 300;
 /// How many hops of repeated walks there are at least in a time that is taken.
 const HOPS: u32 = 64;
 
-type Walk = fn(&[u8], u32, u32, &mut [u8], &mut [u8]) -> u32;
+type Walk = fn(&[u8], u32, u32, u32, &mut [u8], &mut [u8]) -> u32;
 
 /// The best times of the library and of the second implementation, in microseconds.
 #[derive(Clone, Copy)]
@@ -81,7 +81,7 @@ fn make_walks(walk: Walk, frame: &Frame, count: u32) {
     let (from, to) = frame.ends;
     for _ in 0..count {
         let (mut met, mut record) = ([0; MET_BYTES], [0; RECORD_BYTES]);
-        let code = walk(black_box(&frame.plan), from, to, &mut met, &mut record);
+        let code = walk(black_box(&frame.plan), from, to, 0, &mut met, &mut record);
         black_box((code, &met, &record));
     }
 }

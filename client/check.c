@@ -92,11 +92,11 @@ static int failed(const struct check *c, uint32_t from, uint32_t to, const char 
     return REFUSED;
 }
 
-/* Walks one frame and adds it to the counts; the library's own counts have to agree. */
+/* Walks one frame of caller 0 and adds it to the counts; the library's own counts have to agree. */
 static int walk_pair(struct check *c, uint32_t from, uint32_t to)
 {
     uint32_t hops, answer;
-    answer = jolvente_walk(c->plan.bytes, c->plan.length, from, to, c->met, sizeof c->met, c->record, sizeof c->record);
+    answer = jolvente_walk(c->plan.bytes, c->plan.length, from, to, 0, c->met, sizeof c->met, c->record, sizeof c->record);
     if (answer != 0) {
         clear_progress(c);
         return refused(answer);

@@ -55,7 +55,8 @@ uint32_t second_end(const struct plan *plan, uint32_t link);
 /* Bit j of a card's address. */
 int address_bit(const struct plan *plan, uint32_t card, uint32_t j);
 
-/* commands.c and check.c: a command gets the words behind its name, just as many as it needs, and gives the exit status. */
+/* commands.c and check.c: a command gets the words behind its name, as many as it takes, with a null behind the last, and gives the
+ * exit status. */
 
 int plan_wiring(char **words);
 int read_plan(char **words);

@@ -84,17 +84,28 @@ int list_plan(char **words)
     return DONE;
 }
 
-/* A card number in decimal; TROUBLE where the word is none. */
-static int card_number(const char *word, uint32_t *card)
+/* Whether a word is a number of 32 bits in decimal, and that number. */
+static int is_number(const char *word, uint32_t *number)
 {
     unsigned long long value = 0;
     const char *digit = word;
     while ('0' <= *digit && *digit <= '9' && value <= UINT32_MAX)
         value = 10 * value + (unsigned)(*digit++ - '0');
-    *card = (uint32_t)value;
-    if (digit == word || *digit != '\0' || value > UINT32_MAX)
-        return trouble("no card number", word, "a card is a number from 0 to 4294967295");
-    return DONE;
+    *number = (uint32_t)value;
+    return digit != word && *digit == '\0' && value <= UINT32_MAX;
+}
+
+/* A card number; TROUBLE where the word is none. */
+static int card_number(const char *word, uint32_t *card)
+{
+    return is_number(word, card) ? DONE : trouble("no card number", word, "a card is a number from 0 to 4294967295");
+}
+
+/* A caller's number, 0 where no word is given; TROUBLE where the word is none. The library tells one that is over 15. */
+static int caller_number(const char *word, uint32_t *caller)
+{
+    *caller = 0;
+    return !word || is_number(word, caller) ? DONE : trouble("no caller's number", word, "a caller is a number from 0 to 15");
 }
 
 int say_address(char **words)
@@ -117,16 +128,18 @@ int walk_frame(char **words)
     uint8_t bytes[JOLVENTE_PLAN_BYTES + 1];
     uint8_t met[JOLVENTE_MET_BYTES];
     uint8_t record[JOLVENTE_RECORD_BYTES] = {0};
-    uint32_t from, to = 0, answer, i;
+    uint32_t from, to = 0, caller = 0, answer, i;
     size_t length = 0;
     int status = card_number(words[1], &from);
     if (status == DONE)
         status = card_number(words[2], &to);
     if (status == DONE)
+        status = caller_number(words[3], &caller);
+    if (status == DONE)
         status = read_file(words[0], bytes, sizeof bytes, &length);
     if (status != DONE)
         return status;
-    answer = jolvente_walk(bytes, length, from, to, met, sizeof met, record, sizeof record);
+    answer = jolvente_walk(bytes, length, from, to, caller, met, sizeof met, record, sizeof record);
     if (answer != 0)
         return refused(answer);
     printf("%s after %u hops:", number_of(record, 0) ? "arrived" : "stuck", (unsigned)number_of(record, 1));

@@ -9,19 +9,19 @@
 
 struct command {
     const char *name;
-    int count;
+    int least, most;
     const char *words;
     const char *purpose;
     int (*run)(char **words);
 };
 
 static const struct command COMMANDS[] = {
-    {"plan", 2, "WIRING PLAN", "plans a wiring file and writes its plan file", plan_wiring},
-    {"read", 1, "PLAN", "reads a plan file and says its sizes", read_plan},
-    {"list", 1, "PLAN", "says the addresses of all cards", list_plan},
-    {"address", 2, "PLAN CARD", "says a card's address", say_address},
-    {"walk", 3, "PLAN FROM TO", "walks a frame and says the cards met", walk_frame},
-    {"check", 1, "PLAN", "walks every pair of cards, both ways, and counts the links", check_plan},
+    {"plan", 2, 2, "WIRING PLAN", "plans a wiring file and writes its plan file", plan_wiring},
+    {"read", 1, 1, "PLAN", "reads a plan file and says its sizes", read_plan},
+    {"list", 1, 1, "PLAN", "says the addresses of all cards", list_plan},
+    {"address", 2, 2, "PLAN CARD", "says a card's address", say_address},
+    {"walk", 3, 4, "PLAN FROM TO [CALLER]", "walks a frame, of caller 0 where none is named, and says the cards met", walk_frame},
+    {"check", 1, 1, "PLAN", "walks every pair of cards, both ways, and counts the links", check_plan},
 };
 enum { COUNT = sizeof COMMANDS / sizeof COMMANDS[0] };
 
@@ -35,17 +35,17 @@ static int help(void)
     int i;
     printf("jolvente plans intercom racks and walks their plans.\n\n");
     for (i = 0; i < COUNT; i++)
-        printf("  jolvente %-8s%-14s%s\n", COMMANDS[i].name, COMMANDS[i].words, COMMANDS[i].purpose);
+        printf("  jolvente %-8s%-23s%s\n", COMMANDS[i].name, COMMANDS[i].words, COMMANDS[i].purpose);
     printf("  jolvente --help, jolvente COMMAND --help, jolvente --version\n\n"
-           "Cards and links are counted from 0. Exit status: 0 done; 1 refused by number, or a frame that is stuck or takes more\n"
-           "links than needed; 2 wrong use, or a file or output that cannot be read or written.\n");
+           "Cards and links are counted from 0, and callers are 0 to 15. Exit status: 0 done; 1 refused by number, or a frame that is\n"
+           "stuck or takes more links than needed; 2 wrong use, or a file or output that cannot be read or written.\n");
     return DONE;
 }
 
 static int run(const struct command *command, int count, char **words)
 {
     int helps = count == 1 && asks_help(words[0]);
-    if (!helps && count == command->count)
+    if (!helps && command->least <= count && count <= command->most)
         return command->run(words);
     fprintf(helps ? stdout : stderr, "usage: jolvente %s %s\n", command->name, command->words);
     return helps ? DONE : TROUBLE;

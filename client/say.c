@@ -3,25 +3,33 @@
 
 #include "client.h"
 
-/* What each refusal means, by its number; the header has the same sentences. */
-static const char *const MEANING[] = {
-    "",
-    "a lent buffer is not as long as the header says",
-    "the wiring file has fewer than 4 bytes",
-    "the wiring file says no card or more than 256; it may be no wiring file",
-    "the wiring file says more than 2,048 links",
-    "the wiring file is not 4 + 4 x links bytes long; it may be cut, or no wiring file",
-    "this link has an end that is no card",
-    "this link has both ends at one card",
-    "this link joins the same two cards as an earlier one",
-    "this card cannot be reached from card 0",
-    "this link closes a loop of an odd number of links, so no addresses exist",
-    "no addresses exist, though no loop is odd; look for two cards with three common neighbours",
-    "the plan's sizes or its length are wrong; it may be no plan file",
-    "the plan is not the one that the planner writes for its wiring",
-    "a card number is not below the number of cards",
-    "a traffic count would pass 4,294,967,295",
+/* The numbers of refusals are below this. */
+enum { NUMBERS = 27 };
+
+/* What a refusal means, by its number, for each that the header lists, in its words. */
+static const char *const MEANING[NUMBERS] = {
+    [1] = "a lent buffer is not as long as the header says",
+    [2] = "the wiring file has fewer than 4 bytes",
+    [3] = "the wiring file says no card or more than 256; it may be no wiring file",
+    [4] = "the wiring file says more than 2,048 links",
+    [5] = "the wiring file is not 4 + 4 x links bytes long; it may be cut, or no wiring file",
+    [6] = "this link has an end that is no card",
+    [7] = "this link has both ends at one card",
+    [8] = "this link joins the same two cards as an earlier one",
+    [9] = "this card cannot be reached from card 0",
+    [10] = "this link closes a loop of an odd number of links, so no addresses exist",
+    [11] = "no addresses exist, though no loop is odd; look for two cards with three common neighbours",
+    [12] = "the plan's sizes or its length are wrong; it may be no plan file",
+    [13] = "the plan is not the one that the planner writes for its wiring",
+    [14] = "a card number is not below the number of cards",
+    [15] = "a traffic count would pass 4,294,967,295",
+    [18] = "a caller's number is over 15",
 };
+
+static const char *meaning(uint32_t number)
+{
+    return number < NUMBERS && MEANING[number] ? MEANING[number] : "not a number of this client's header";
+}
 
 int refused(uint32_t answer)
 {
@@ -31,7 +39,7 @@ int refused(uint32_t answer)
         fprintf(stderr, " card %u", (unsigned)(answer / 256));
     else if (number == 10 || (6 <= number && number <= 8))
         fprintf(stderr, " link %u", (unsigned)(answer / 256));
-    fprintf(stderr, ": %s\n", number < sizeof MEANING / sizeof MEANING[0] ? MEANING[number] : "not a number of this client's header");
+    fprintf(stderr, ": %s\n", meaning(number));
     return REFUSED;
 }
 

@@ -21,8 +21,9 @@
  *   13  the plan is not the one that the planner writes for its wiring
  *   14  a card number is not below the number of cards
  *   15  a traffic count would pass 4,294,967,295
+ *   18  a caller's number is over 15
  *
- * With 1, nothing lent is touched. With 2 to 11, every lent byte is zero. With 12 to 15, every lent byte is as it was.
+ * With 1, nothing lent is touched. With 2 to 11, every lent byte is zero. With 12 to 15 and 18, every lent byte is as it was.
  *
  * A record is 16 lent bytes: four numbers of 32 bits, low byte first. Numbers in files have 16 bits, low byte first.
  *
@@ -44,7 +45,7 @@ extern "C" {
 #endif
 
 /* Raised with each section of docs/LANDINGS.md. */
-#define JOLVENTE_VERSION "0.8"
+#define JOLVENTE_VERSION "0.9"
 
 /* The longest wiring file, the longest plan file, and lent lengths. */
 enum {
@@ -73,16 +74,17 @@ uint32_t jolvente_write_plan(const uint8_t *wiring, size_t wiring_len, uint8_t *
  * record_len must be 16. Writes the record (cards, links, columns, 0). Refuses with 1, 12 and 13. */
 uint32_t jolvente_read_plan(const uint8_t *plan, size_t plan_len, uint8_t *record, size_t record_len);
 
-/* Walks a frame from a card to its goal.
+/* Walks a caller's frame from a card to its goal.
  *
- * met_len must be 512 and record_len 16. Bytes 8 to 15 of the record hold two counts on entry: frames that arrived, and
- * their hops. Writes into met the cards met as numbers of 16 bits, the first card first, zeros behind the last, and the
- * record (1 for arrived or 0 for stuck, hops, the two counts). An arrived frame raises the counts by 1 and by its hops; a
- * stuck one leaves them. Hops + 1 cards were met. Refuses with 1, 12, 14 and 15.
+ * Callers are numbered 0 to 15. met_len must be 512 and record_len 16. Bytes 8 to 15 of the record hold this caller's two
+ * counts on entry: frames that arrived, and their hops; the program keeps such a pair for each caller. Writes into met the
+ * cards met as numbers of 16 bits, the first card first, zeros behind the last, and the record (1 for arrived or 0 for stuck,
+ * hops, the two counts). An arrived frame raises the counts by 1 and by its hops; a stuck one leaves them. Hops + 1 cards were
+ * met. Refuses with the first of 1, 12, 18, 14 and 15 that applies.
  *
  * The plan's layout alone is tested, so a frame can be stuck on a plan that jolvente_read_plan refuses. On a plan that it
- * reads every frame that the counts can take arrives, by the fewest links. */
-uint32_t jolvente_walk(const uint8_t *plan, size_t plan_len, uint32_t from, uint32_t goal, uint8_t *met, size_t met_len, uint8_t *record, size_t record_len);
+ * reads every frame of a caller 0 to 15 that the counts can take arrives, by the fewest links. */
+uint32_t jolvente_walk(const uint8_t *plan, size_t plan_len, uint32_t from, uint32_t goal, uint32_t caller, uint8_t *met, size_t met_len, uint8_t *record, size_t record_len);
 
 #ifdef __cplusplus
 }

@@ -7,12 +7,14 @@ use crate::{calls, second};
 /// Bytes on each side of a lent buffer that no call may touch.
 const MARGIN: usize = 16;
 const SHOWN_BYTES: usize = 400;
+/// The numbers of refusals are below this, and 0 is no refusal.
+pub const NUMBERS: usize = 27;
 
 #[derive(Clone, Copy, Debug)]
 pub enum Call {
     WritePlan,
     ReadPlan,
-    Walk { from: u32, to: u32 },
+    Walk { from: u32, to: u32, caller: u32 },
 }
 
 /// The lengths of the lent buffers: plan or cards met, and record. Reading has only the record.
@@ -110,7 +112,7 @@ impl Answer {
         )
     }
 
-    /// What the numbers promise of the buffers: 1 and 12 to 15 keep them, 2 to 11 clear them.
+    /// What the numbers promise of the buffers: 2 to 11 clear them, the others keep them.
     fn keeps_promise(&self, before: &Answer) -> bool {
         let parts = [
             (&self.result, &before.result),
@@ -156,7 +158,7 @@ fn ask_library(call: Call, input: &[u8], answer: &mut Answer) {
     answer.code = match call {
         Call::WritePlan => calls::write_plan(input, result, record),
         Call::ReadPlan => calls::read_plan(input, record),
-        Call::Walk { from, to } => calls::walk(input, from, to, result, record),
+        Call::Walk { from, to, caller } => calls::walk(input, from, to, caller, result, record),
     };
 }
 
@@ -165,7 +167,7 @@ fn ask_second(call: Call, input: &[u8], answer: &mut Answer) {
     answer.code = match call {
         Call::WritePlan => second::write_plan(input, result, record),
         Call::ReadPlan => second::read_plan(input, record),
-        Call::Walk { from, to } => second::walk(input, from, to, result, record),
+        Call::Walk { from, to, caller } => second::walk(input, from, to, caller, result, record),
     };
 }
 
@@ -175,7 +177,7 @@ pub struct Both {
     pub round: u64,
     noise: Rng,
     /// For each of the three calls, how often each number was the answer.
-    pub seen: [[u64; 16]; 3],
+    pub seen: [[u64; NUMBERS]; 3],
 }
 
 impl Both {
@@ -184,7 +186,7 @@ impl Both {
             seed,
             round: 0,
             noise: Rng::new(!seed),
-            seen: [[0; 16]; 3],
+            seen: [[0; NUMBERS]; 3],
         }
     }
 
@@ -200,8 +202,14 @@ impl Both {
         self.call(Call::ReadPlan, plan, Call::ReadPlan.lengths(), [0, 0])
     }
 
-    pub fn walk(&mut self, plan: &[u8], from: u32, to: u32, counts: [u32; 2]) -> Answer {
-        let call = Call::Walk { from, to };
+    pub fn walk(
+        &mut self,
+        plan: &[u8],
+        [from, to]: [u32; 2],
+        caller: u32,
+        counts: [u32; 2],
+    ) -> Answer {
+        let call = Call::Walk { from, to, caller };
         self.call(call, plan, call.lengths(), counts)
     }
 

@@ -20,6 +20,7 @@ extern "C" {
         plan_len: usize,
         from: u32,
         to: u32,
+        caller: u32,
         met: *mut u8,
         met_len: usize,
         record: *mut u8,
@@ -44,13 +45,21 @@ pub fn read_plan(plan: &[u8], record: &mut [u8]) -> u32 {
     unsafe { jolvente_read_plan(plan.as_ptr(), plan.len(), record.as_mut_ptr(), record.len()) }
 }
 
-pub fn walk(plan: &[u8], from: u32, to: u32, met: &mut [u8], record: &mut [u8]) -> u32 {
+pub fn walk(
+    plan: &[u8],
+    from: u32,
+    to: u32,
+    caller: u32,
+    met: &mut [u8],
+    record: &mut [u8],
+) -> u32 {
     unsafe {
         jolvente_walk(
             plan.as_ptr(),
             plan.len(),
             from,
             to,
+            caller,
             met.as_mut_ptr(),
             met.len(),
             record.as_mut_ptr(),

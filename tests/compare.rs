@@ -6,22 +6,30 @@ mod calls;
 mod drawn;
 mod faults;
 mod named;
+mod named_callers;
 mod properties;
 mod racks;
 #[allow(dead_code)]
 mod second;
 
-use both::{Both, Call, Lengths};
+use both::{Answer, Both, Call, Lengths, NUMBERS};
 use drawn::{some_card, some_count, some_length, MOST};
 use faults::{plans, wirings};
 use racks::kinds::SHAPES;
 use racks::{Rack, Rng};
+use second::CALLERS;
 
 const SEED: u64 = 20_260_115;
 const ROUNDS: u64 = 4_000;
 const FEWEST_CALLS: u64 = 20_000;
 /// The most cards for the slow test of whole sides.
 const SMALL: usize = 14;
+/// The calls, and the numbers that each can be answered with.
+const ANSWERED: [(&str, &[usize]); 3] = [
+    ("write_plan", &[0, 1, 2, 3, 4, 5, 6, 7, 8, 9, 10, 11]),
+    ("read_plan", &[0, 1, 12, 13]),
+    ("walk", &[0, 1, 12, 14, 15, 18]),
+];
 
 fn main() {
     let mut numbers = std::env::args()
@@ -39,6 +47,7 @@ fn main() {
 
     let mut cases = Both::new(seed);
     named::check(&mut cases);
+    named_callers::check(&mut cases);
     println!("named cases: {} calls agree", cases.calls());
 
     let mut both = Both::new(seed);
@@ -60,7 +69,7 @@ fn stop(message: &str) -> ! {
 
 fn report(both: &Both) {
     println!("rounds: {} calls agree", both.calls());
-    for (call, seen) in ["write_plan", "read_plan", "walk"].iter().zip(&both.seen) {
+    for ((call, _), seen) in ANSWERED.iter().zip(&both.seen) {
         let counts = seen.iter().enumerate().filter(|(_, &count)| count > 0);
         let counts: Vec<String> = counts
             .map(|(number, count)| format!("{number}: {count}"))
@@ -73,11 +82,16 @@ fn report(both: &Both) {
     }
 }
 
-/// The rounds must have met every number and be many.
+/// The rounds must have met every number that a call can be answered with and no other, and be many.
 fn check_reach(both: &Both) {
-    for number in 0..16 {
-        if both.seen.iter().all(|seen| seen[number] == 0) {
-            stop(&format!("FAILED: no call was answered with {number}"));
+    for ((call, numbers), seen) in ANSWERED.iter().zip(&both.seen) {
+        for number in 0..NUMBERS {
+            if numbers.contains(&number) != (seen[number] > 0) {
+                stop(&format!(
+                    "FAILED: {call} was answered with {number} {} times",
+                    seen[number]
+                ));
+            }
         }
     }
     if both.calls() < FEWEST_CALLS {
@@ -119,8 +133,12 @@ fn run_round(both: &mut Both, rng: &mut Rng) {
     follow_plan(both, rng, &made_up, 12);
     wrong_lengths(both, rng, &[Call::WritePlan], &rack.bytes());
     let file = plan.filter(|_| rng.below(2) == 0).unwrap_or(made_up);
-    let (from, to) = (some_card(rng, &file), some_card(rng, &file));
-    wrong_lengths(both, rng, &[Call::ReadPlan, Call::Walk { from, to }], &file);
+    let walk = Call::Walk {
+        from: some_card(rng, &file),
+        to: some_card(rng, &file),
+        caller: some_caller(rng),
+    };
+    wrong_lengths(both, rng, &[Call::ReadPlan, walk], &file);
 }
 
 /// Plans a well-formed rack and tests the answer. Gives the plan of an accepted rack.
@@ -156,47 +174,69 @@ fn plan_rack(both: &mut Both, rack: &Rack, number: Option<u32>) -> Option<Vec<u8
     Some(plan.to_vec())
 }
 
-/// Reads a plan, sound or not, and walks it between some cards.
+/// Mostly one of the callers, at times a number beyond them.
+fn some_caller(rng: &mut Rng) -> u32 {
+    match rng.below(16) {
+        0 => rng.pick(&[CALLERS, 255, 256, 65_536, MOST]),
+        _ => rng.draw() as u32 % CALLERS,
+    }
+}
+
+/// Reads a plan, sound or not, and walks it between some cards, for some callers.
 fn follow_plan(both: &mut Both, rng: &mut Rng, plan: &[u8], walks: usize) {
     let sound = both.read_plan(plan).code == 0;
     let rack = sound.then(|| plans::plan_rack(plan));
     let hops = rack.as_ref().map(properties::hops);
     for _ in 0..walks {
-        let (from, to) = (some_card(rng, plan), some_card(rng, plan));
+        let ends = [some_card(rng, plan), some_card(rng, plan)];
+        let (caller, known) = (some_caller(rng), rng.draw() as u32 % CALLERS);
         let counts = [some_count(rng), some_count(rng)];
-        let answer = both.walk(plan, from, to, counts);
-        let free = both.walk(plan, from, to, [0, 0]);
+        let answer = both.walk(plan, ends, caller, counts);
+        let free = both.walk(plan, ends, known, [0, 0]);
+        let unknown = caller >= CALLERS && free.code != 12;
+        both.expect(
+            unknown == (answer.code == 18),
+            "not the limit of the callers",
+            plan,
+            &answer,
+        );
         if let (Some(rack), Some(hops), 0) = (&rack, &hops, free.code) {
-            let (a, b) = (from as usize, to as usize);
-            let fewest = hops[a][b];
-            let right = free.record() == [1, fewest, 1, fewest]
-                && properties::is_shortest(rack, fewest, &free.met(), a, b);
-            both.expect(
-                right,
-                "a frame did not arrive by the fewest links",
-                plan,
-                &free,
-            );
+            let fewest = hops[ends[0] as usize][ends[1] as usize];
+            check_frame(both, plan, rack, ends, fewest, &free);
             let fits = counts[0] < MOST && counts[1] <= MOST - fewest;
             both.expect(
-                fits == (answer.code == 0),
+                unknown || fits == (answer.code == 0),
                 "not the limit of the counts",
                 plan,
                 &answer,
             );
         }
         if free.code == 0 {
-            count_limits(both, plan, [from, to], free.record());
+            count_limits(both, plan, ends, known, free.record());
         }
     }
 }
 
-/// Repeats a walk that was made, with counts at their limits.
-fn count_limits(both: &mut Both, plan: &[u8], [from, to]: [u32; 2], [arrived, hops, ..]: [u32; 4]) {
+/// A frame on a sound plan, with counts that begin at 0, arrives by the fewest links.
+fn check_frame(both: &Both, plan: &[u8], rack: &Rack, ends: [u32; 2], fewest: u32, free: &Answer) {
+    let [from, to] = ends.map(|card| card as usize);
+    let right = free.record() == [1, fewest, 1, fewest]
+        && properties::is_shortest(rack, fewest, &free.met(), from, to);
+    both.expect(
+        right,
+        "a frame did not arrive by the fewest links",
+        plan,
+        free,
+    );
+}
+
+/// Repeats a walk that was made, with the caller's counts at their limits.
+fn count_limits(both: &mut Both, plan: &[u8], ends: [u32; 2], caller: u32, made: [u32; 4]) {
+    let [arrived, hops, ..] = made;
     let stuck = arrived == 0;
-    let just = both.walk(plan, from, to, [MOST - 1, MOST - hops]);
+    let just = both.walk(plan, ends, caller, [MOST - 1, MOST - hops]);
     both.expect(just.code == 0, "counts that fit are refused", plan, &just);
-    let frames = both.walk(plan, from, to, [MOST, 0]);
+    let frames = both.walk(plan, ends, caller, [MOST, 0]);
     both.expect(
         stuck == (frames.code == 0),
         "not the limit of the frames",
@@ -204,7 +244,7 @@ fn count_limits(both: &mut Both, plan: &[u8], [from, to]: [u32; 2], [arrived, ho
         &frames,
     );
     if hops > 0 {
-        let total = both.walk(plan, from, to, [0, MOST - hops + 1]);
+        let total = both.walk(plan, ends, caller, [0, MOST - hops + 1]);
         both.expect(
             stuck == (total.code == 0),
             "not the limit of the hops",

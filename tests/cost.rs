@@ -120,7 +120,7 @@ fn walk(kind: Kind, frames: &[Frame], made: &mut Made) {
     for frame in frames {
         let mut record = [0; RECORD_BYTES];
         let (from, to) = frame.ends;
-        let code = calls::walk(&frame.plan, from, to, &mut [0; MET_BYTES], &mut record);
+        let code = calls::walk(&frame.plan, from, to, 0, &mut [0; MET_BYTES], &mut record);
         made.push((frame.name, kind));
         let number = |at: usize| u32::from_le_bytes([0, 1, 2, 3].map(|byte| record[at + byte]));
         let answer = [number(0), number(4)];

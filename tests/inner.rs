@@ -1,7 +1,9 @@
 //! Compares the calls of libtest_calls.a with the second implementation: `inner [SEED] [ROUNDS]`.
-//! A round plans and lists a rack and faulty files, makes calls on its plan, on damaged ones and on one made up, steps over the
-//! rack's links, lets its cards confer, and hangs a card on them.
+//! A round plans and lists a rack and faulty files, makes calls on its plan, on damaged ones and on one made up, chooses between
+//! frames, steps over the rack's links, lets its cards confer, and hangs a card on them.
 
+#[allow(dead_code)]
+mod callers;
 #[allow(dead_code)]
 mod conference;
 #[allow(dead_code)]
@@ -10,10 +12,15 @@ mod drawn;
 #[allow(dead_code)]
 mod faults;
 mod inner_both;
+mod inner_callers;
 mod inner_calls;
 mod inner_changes;
+mod inner_counted;
+mod inner_drawn;
 mod inner_lent;
 mod inner_named;
+mod inner_named_turns;
+mod inner_named_walks;
 mod inner_second;
 #[allow(dead_code)]
 mod last_card;
@@ -22,11 +29,11 @@ mod racks;
 #[allow(dead_code)]
 mod second;
 
-use drawn::{some_card, some_count, some_length};
+use drawn::{some_card, some_count};
 use faults::{plans, wirings};
 use inner_both::{Both, Call, Name, NAMES};
 use inner_changes::{change_damaged, change_plan};
-use inner_lent::Lengths;
+use inner_drawn::{some_caller, some_frame, some_lengths, some_sizes, some_traffic};
 use racks::kinds::SHAPES;
 use racks::Rng;
 use second::columns::column_numbers;
@@ -54,6 +61,8 @@ fn main() {
     let rounds = given_rounds.unwrap_or(ROUNDS);
     let mut cases = Both::new(seed);
     inner_named::check(&mut cases);
+    inner_named_walks::check(&mut cases);
+    inner_named_turns::check(&mut cases);
     println!("named cases: {} calls agree", cases.calls());
 
     let mut both = Both::new(seed);
@@ -83,27 +92,10 @@ fn report(both: &Both, rounds: u64) {
             .collect();
         println!("{name:?} by number {}", counts.join(", "));
     }
-    let ([stuck, arrived, onward], ends) = (both.outcomes, both.ends);
-    let [nowhere, somewhere] = both.conferences;
-    println!(
-        "steps stuck {stuck}, arrived {arrived}, over a link {onward}; walks stuck {}, arrived {}; \
-         conferences at a card {somewhere}, at none {nowhere}",
-        ends[0], ends[1]
-    );
-    let columns = &both.columns;
-    println!(
-        "of several columns crossed, by steps {}, by walks that were stuck {}; only spare bits differ {}",
-        columns.step, columns.stuck_walk, columns.spare
-    );
-    let changes = &both.changes;
-    println!(
-        "addresses a byte longer {}, shorter {}; taken off by a link from the last card {}",
-        changes.wider, changes.narrower, changes.turned
-    );
+    both.counted.report();
 }
 
-/// Every number that a call can be answered with was met and no other, every end of steps, walks and conferences, and each kind of
-/// `Columns` and `Changes`.
+/// Every number that a call can be answered with was met and no other, and each kind of answer that is counted.
 fn check_reach(both: &Both) {
     for name in NAMES {
         for (number, &count) in both.seen[name as usize].iter().enumerate() {
@@ -114,16 +106,8 @@ fn check_reach(both: &Both) {
             }
         }
     }
-    if both.outcomes.contains(&0) || both.ends.contains(&0) || both.conferences.contains(&0) {
-        stop("FAILED: a step, a walk or a conference never ended in one of its ways");
-    }
-    let columns = &both.columns;
-    if [columns.step, columns.stuck_walk, columns.spare].contains(&0) {
-        stop("FAILED: never did several columns differ on a way, or only spare bits of two cards");
-    }
-    let changes = &both.changes;
-    if [changes.wider, changes.narrower, changes.turned].contains(&0) {
-        stop("FAILED: never did a card more or less change the bytes of an address, or a link from the last card go");
+    if let Some(message) = both.counted.missing() {
+        stop(&format!("FAILED: {message}"));
     }
     if both.calls() < FEWEST_CALLS {
         stop(&format!(
@@ -143,39 +127,33 @@ fn run_round(both: &mut Both, rng: &mut Rng) {
     }
     if let Ok(planned) = second::planner::plan(&wiring) {
         let plan = planned.bytes();
-        follow_plan(both, rng, &plan, 50);
+        follow_plan(both, rng, &plan, 60);
         cross_links(both, rng, &planned.wiring, &plan);
         confer(both, rng, &plan);
         change_plan(both, rng, &plan);
         for _ in 0..4 {
             let damaged = plans::damaged_plan(rng, &plan);
-            follow_plan(both, rng, &damaged, 15);
+            follow_plan(both, rng, &damaged, 18);
             change_damaged(both, rng, &damaged);
         }
     }
     let made_up = plans::made_up_plan(rng);
-    follow_plan(both, rng, &made_up, 30);
+    follow_plan(both, rng, &made_up, 36);
 }
 
 /// Plans and lists a wiring file, now and then with buffers of wrong lengths.
 fn plan_file(both: &mut Both, rng: &mut Rng, file: &[u8]) {
-    let numbers = Call {
-        name: Name::PlanRack,
-        sizes: [0; 3],
-        from: 0,
-        goal: 0,
-        third: 0,
-        counts: [0; 2],
-    };
     for name in [Name::PlanRack, Name::ListingText] {
         let lengths = some_lengths(rng, name);
-        both.call(Call { name, ..numbers }, file, lengths);
+        both.call(Call::new(name), file, lengths);
     }
 }
 
-/// Makes any calls on a plan, sound or not.
+/// Makes any calls on a plan, sound or not, and choices between two frames, at times the same.
 fn follow_plan(both: &mut Both, rng: &mut Rng, plan: &[u8], calls: usize) {
     for _ in 0..calls {
+        let frames = [(); 2].map(|_| some_frame(rng, plan));
+        let second = usize::from(rng.below(8) > 0);
         let call = Call {
             name: rng.pick(&NAMES[2..]),
             sizes: some_sizes(rng, plan),
@@ -183,6 +161,9 @@ fn follow_plan(both: &mut Both, rng: &mut Rng, plan: &[u8], calls: usize) {
             goal: some_card(rng, plan),
             third: some_card(rng, plan),
             counts: [some_count(rng), some_count(rng)],
+            caller: some_caller(rng),
+            traffic: some_traffic(rng),
+            frames: [&frames[0], &frames[second]],
         };
         let lengths = some_lengths(rng, call.name);
         both.call(call, plan, lengths);
@@ -195,23 +176,21 @@ fn cross_links(both: &mut Both, rng: &mut Rng, wiring: &Wiring, plan: &[u8]) {
     for _ in 0..CROSSED.min(wiring.links.len()) {
         let link = rng.below(wiring.links.len());
         let (p, q) = wiring.links[link];
-        for (name, before) in [
+        for (name, at) in [
             (Name::PlanPlaces, 1),
             (Name::StepFrame, 3),
             (Name::WalkFrame, 4),
+            (Name::WalkByCaller, 2),
         ] {
             let (from, goal) = rng.pick(&[(p as u32, q as u32), (q as u32, p as u32)]);
             let call = Call {
-                name,
-                sizes: [0; 3],
                 from,
                 goal,
-                third: 0,
-                counts: [0; 2],
+                ..Call::new(name)
             };
             let answer = both.call(call, plan, name.lengths());
             let fields = answer.lent.fields.items();
-            if fields[before..] != [1, numbers[link] as u32] {
+            if fields[at..at + 2] != [1, numbers[link] as u32] {
                 stop(&format!(
                     "FAILED: {name:?} {from} {goal}: {fields:?}, and link {link} has column {}",
                     numbers[link]
@@ -233,49 +212,11 @@ fn confer(both: &mut Both, rng: &mut Rng, plan: &[u8]) {
     for three in threes {
         let [from, goal, third] = three.map(|card| card as u32);
         let call = Call {
-            name: Name::ConferenceCard,
-            sizes: [0; 3],
             from,
             goal,
             third,
-            counts: [0; 2],
+            ..Call::new(Name::ConferenceCard)
         };
         both.call(call, plan, call.name.lengths());
-    }
-}
-
-/// Mostly the sizes in the bytes; else one of them is another.
-fn some_sizes(rng: &mut Rng, plan: &[u8]) -> [u32; 3] {
-    let number = |at: usize| {
-        plan.get(at..at + 2)
-            .map_or(0, |two| u32::from(two[0]) + 256 * u32::from(two[1]))
-    };
-    let mut sizes = [number(0), number(2), number(4)];
-    if rng.below(4) == 0 {
-        let (size, any) = (rng.below(3), rng.draw() as u32);
-        let old = sizes[size];
-        sizes[size] = rng.pick(&[
-            0,
-            old.wrapping_sub(1),
-            old + 1,
-            old + 65_536,
-            sizes[(size + 1) % 3],
-            any,
-        ]);
-    }
-    sizes
-}
-
-/// Mostly the right lengths.
-fn some_lengths(rng: &mut Rng, name: Name) -> Lengths {
-    let right = name.lengths();
-    if rng.below(12) > 0 {
-        return right;
-    }
-    Lengths {
-        words: some_length(rng, right.words),
-        bytes: some_length(rng, right.bytes),
-        met: some_length(rng, right.met),
-        fields: some_length(rng, right.fields),
     }
 }

@@ -1,10 +1,12 @@
 //! The calls of libtest_calls.a, over slices.
 
+use crate::callers::{rows, test_walk_by_caller, test_walk_lent};
 use crate::conference::test_conference_card;
 use crate::crossing::{test_step_frame, test_walk_frame};
 use crate::inner_both::{Call, Kind, Name};
 use crate::inner_lent::Lents;
 use crate::last_card::{test_add_card, test_take_card_off};
+use crate::second::callers::{CALLERS, COUNTS};
 
 /// A slice as the library hands it out.
 #[repr(C)]
@@ -40,6 +42,14 @@ extern "C" {
         b: u32,
         answer: *mut u32,
         answer_len: usize,
+    ) -> u32;
+    fn test_next_frame(
+        first: *const u8,
+        first_len: usize,
+        second: *const u8,
+        second_len: usize,
+        turns: *mut u32,
+        part: *mut Part,
     ) -> u32;
     fn test_read_carried(
         bytes: *const u8,
@@ -86,8 +96,10 @@ extern "C" {
         columns: u32,
         from: u32,
         goal: u32,
-        frames: u32,
-        hops: u32,
+        caller: u32,
+        frames: *mut u32,
+        hops: *mut u32,
+        turns: *mut u32,
         met: *mut u16,
         met_len: usize,
         answer: *mut u32,
@@ -106,8 +118,10 @@ extern "C" {
         bytes_len: usize,
         from: u32,
         goal: u32,
-        frames: u32,
-        hops: u32,
+        caller: u32,
+        frames: *mut u32,
+        hops: *mut u32,
+        turns: *mut u32,
         met: *mut u16,
         met_len: usize,
         answer: *mut u32,
@@ -134,6 +148,8 @@ pub fn ask(call: &Call, input: &[u8], lent: &mut Lents) -> u32 {
         Kind::Address => address(call, input, lent),
         Kind::Sizes | Kind::Places | Kind::Step | Kind::Conference => fields(call, input, lent),
         Kind::Walk => walk(call, input, lent),
+        Kind::CallerWalk => caller_walk(call, input, lent),
+        Kind::Choice => choice(call, lent),
         Kind::NewPlan => new_plan(call, input, lent),
     }
 }
@@ -144,12 +160,9 @@ fn not_of_its_kind(name: Name) -> ! {
 
 fn plan_or_list(name: Name, file: &[u8], lent: &mut Lents) -> u32 {
     let (start, long) = (file.as_ptr(), file.len());
-    let words = lent.words.items_mut();
-    let (words, words_len) = (words.as_mut_ptr(), words.len());
-    let bytes = lent.bytes.items_mut();
-    let (bytes, bytes_len) = (bytes.as_mut_ptr(), bytes.len());
-    let fields = lent.fields.items_mut();
-    let (fields, count) = (fields.as_mut_ptr(), fields.len());
+    let (words, words_len) = lent.words.lend();
+    let (bytes, bytes_len) = lent.bytes.lend();
+    let (fields, count) = lent.fields.lend();
     unsafe {
         match name {
             Name::PlanRack => test_plan_rack(
@@ -161,15 +174,25 @@ fn plan_or_list(name: Name, file: &[u8], lent: &mut Lents) -> u32 {
     }
 }
 
-/// A part is told by how far behind the input's first byte it begins.
+/// A part before it is handed out: one that no call hands out.
+fn no_part() -> Part {
+    let nowhere = &[0u8];
+    Part {
+        start: nowhere.as_ptr(),
+        length: nowhere.len(),
+    }
+}
+
+/// A part is told by how far behind a first byte it begins, and by its length.
+fn place(part: Part, first: *const u8) -> (usize, usize) {
+    let offset = (part.start as usize).wrapping_sub(first as usize);
+    (offset, part.length)
+}
+
 fn address(call: &Call, plan: &[u8], lent: &mut Lents) -> u32 {
     let (start, long) = (plan.as_ptr(), plan.len());
     let ([n, m, k], card) = (call.sizes, call.from);
-    let nowhere = &[0u8];
-    let mut part = Part {
-        start: nowhere.as_ptr(),
-        length: nowhere.len(),
-    };
+    let mut part = no_part();
     let number = unsafe {
         match call.name {
             Name::CardAddress => test_card_address(start, long, card, &mut part),
@@ -180,8 +203,7 @@ fn address(call: &Call, plan: &[u8], lent: &mut Lents) -> u32 {
             name => not_of_its_kind(name),
         }
     };
-    let offset = (part.start as usize).wrapping_sub(start as usize);
-    lent.part = Some((offset, part.length));
+    lent.part = Some(place(part, start));
     number
 }
 
@@ -189,8 +211,7 @@ fn address(call: &Call, plan: &[u8], lent: &mut Lents) -> u32 {
 fn fields(call: &Call, plan: &[u8], lent: &mut Lents) -> u32 {
     let (start, long) = (plan.as_ptr(), plan.len());
     let ([n, m, k], a, b, c) = (call.sizes, call.from, call.goal, call.third);
-    let fields = lent.fields.items_mut();
-    let (fields, count) = (fields.as_mut_ptr(), fields.len());
+    let (fields, count) = lent.fields.lend();
     unsafe {
         match call.name {
             Name::ReadCarried => test_read_carried(start, long, n, m, k, fields, count),
@@ -209,21 +230,12 @@ fn fields(call: &Call, plan: &[u8], lent: &mut Lents) -> u32 {
 
 fn walk(call: &Call, plan: &[u8], lent: &mut Lents) -> u32 {
     let (start, long) = (plan.as_ptr(), plan.len());
-    let Call { from, goal, .. } = *call;
-    let ([n, m, k], [frames, hops]) = (call.sizes, call.counts);
-    let met = lent.met.items_mut();
-    let (met, met_len) = (met.as_mut_ptr(), met.len());
-    let fields = lent.fields.items_mut();
-    let (fields, count) = (fields.as_mut_ptr(), fields.len());
+    let (Call { from, goal, .. }, [frames, hops]) = (*call, call.counts);
+    let (met, met_len) = lent.met.lend();
+    let (fields, count) = lent.fields.lend();
     unsafe {
         match call.name {
             Name::WalkFrame => test_walk_frame(
-                start, long, from, goal, frames, hops, met, met_len, fields, count,
-            ),
-            Name::WalkCarried => test_walk_carried(
-                start, long, n, m, k, from, goal, frames, hops, met, met_len, fields, count,
-            ),
-            Name::OpenedWalk => test_opened_walk(
                 start, long, from, goal, frames, hops, met, met_len, fields, count,
             ),
             name => not_of_its_kind(name),
@@ -231,12 +243,52 @@ fn walk(call: &Call, plan: &[u8], lent: &mut Lents) -> u32 {
     }
 }
 
+/// The record is lent without the number of its counts: there are always 48.
+fn caller_walk(call: &Call, plan: &[u8], lent: &mut Lents) -> u32 {
+    let (start, long) = (plan.as_ptr(), plan.len());
+    let (a, b, u, [n, m, k]) = (call.from, call.goal, call.caller, call.sizes);
+    let (frame, frame_len) = (call.frames[0].as_ptr(), call.frames[0].len());
+    let (record, places) = lent.traffic.lend();
+    assert_eq!(places, COUNTS);
+    let [fs, hs, ts] = rows(record);
+    let (met, met_len) = lent.met.lend();
+    let (fields, count) = lent.fields.lend();
+    unsafe {
+        match call.name {
+            Name::WalkByCaller => test_walk_by_caller(
+                start, long, a, b, u, fs, hs, ts, met, met_len, fields, count,
+            ),
+            Name::WalkLent => test_walk_lent(
+                start, long, a, frame, frame_len, fs, hs, ts, met, met_len, fields, count,
+            ),
+            Name::WalkCarried => test_walk_carried(
+                start, long, n, m, k, a, b, u, fs, hs, ts, met, met_len, fields, count,
+            ),
+            Name::OpenedWalk => test_opened_walk(
+                start, long, a, b, u, fs, hs, ts, met, met_len, fields, count,
+            ),
+            name => not_of_its_kind(name),
+        }
+    }
+}
+
+/// The turns are lent without their number: there are always 16.
+fn choice(call: &Call, lent: &mut Lents) -> u32 {
+    let [first, second] = call.frames;
+    let (first, first_len) = (first.as_ptr(), first.len());
+    let (second, second_len) = (second.as_ptr(), second.len());
+    let (turns, count) = lent.turns.lend();
+    assert_eq!(count, CALLERS);
+    let mut part = no_part();
+    let number = unsafe { test_next_frame(first, first_len, second, second_len, turns, &mut part) };
+    lent.part = Some(place(part, first));
+    number
+}
+
 fn new_plan(call: &Call, plan: &[u8], lent: &mut Lents) -> u32 {
     let (start, long) = (plan.as_ptr(), plan.len());
-    let output = lent.bytes.items_mut();
-    let (output, room) = (output.as_mut_ptr(), output.len());
-    let fields = lent.fields.items_mut();
-    let (fields, count) = (fields.as_mut_ptr(), fields.len());
+    let (output, room) = lent.bytes.lend();
+    let (fields, count) = lent.fields.lend();
     unsafe {
         match call.name {
             Name::AddCard => test_add_card(start, long, call.from, output, room, fields, count),

@@ -8,14 +8,10 @@ use crate::second::MOST_CARDS;
 use crate::stop;
 
 /// Hanging a card on a card, or taking off the last one.
-pub fn change(name: Name, card: u32) -> Call {
+pub fn change(name: Name, card: u32) -> Call<'static> {
     Call {
-        name,
-        sizes: [0; 3],
         from: card,
-        goal: 0,
-        third: 0,
-        counts: [0; 2],
+        ..Call::new(name)
     }
 }
 

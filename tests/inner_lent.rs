@@ -5,12 +5,15 @@ use crate::racks::Rng;
 /// Items on each side of a lent buffer that no call may touch.
 const MARGIN: usize = 16;
 
-/// How many items are lent for words, for bytes (hops, text or a plan), for cards met, and for the answer's fields.
+/// How many items are lent for words, for bytes (hops, text or a plan), for cards met, for the counts of all callers or their turns
+/// alone, and for the answer's fields.
 #[derive(Clone, Copy, Debug, PartialEq)]
 pub struct Lengths {
     pub words: usize,
     pub bytes: usize,
     pub met: usize,
+    pub traffic: usize,
+    pub turns: usize,
     pub fields: usize,
 }
 
@@ -31,6 +34,21 @@ impl<T> Lent<T> {
         let end = self.0.len() - MARGIN;
         &mut self.0[MARGIN..end]
     }
+
+    /// As a call takes it: where it begins, and its length.
+    pub fn lend(&mut self) -> (*mut T, usize) {
+        let items = self.items_mut();
+        (items.as_mut_ptr(), items.len())
+    }
+}
+
+impl<T: Copy> Lent<T> {
+    /// Puts as many items as there are places for in front.
+    pub fn put(&mut self, items: &[T]) {
+        for (place, &item) in self.items_mut().iter_mut().zip(items) {
+            *place = item;
+        }
+    }
 }
 
 impl<T: PartialEq + std::fmt::Debug> Lent<T> {
@@ -42,12 +60,15 @@ impl<T: PartialEq + std::fmt::Debug> Lent<T> {
     }
 }
 
-/// All that is lent to a call, and the part of its input that it handed out: how far in it begins, and its length.
+/// All that is lent to a call, and the part of its input or of its frames that it handed out: how far behind the first byte it begins, and
+/// its length.
 #[derive(Clone, PartialEq)]
 pub struct Lents {
     pub words: Lent<u64>,
     pub bytes: Lent<u8>,
     pub met: Lent<u16>,
+    pub traffic: Lent<u32>,
+    pub turns: Lent<u32>,
     pub fields: Lent<u32>,
     pub part: Option<(usize, usize)>,
 }
@@ -58,6 +79,8 @@ impl Lents {
             words: Lent::noise(rng, lengths.words, |x| x),
             bytes: Lent::noise(rng, lengths.bytes, |x| x as u8),
             met: Lent::noise(rng, lengths.met, |x| x as u16),
+            traffic: Lent::noise(rng, lengths.traffic, |x| x as u32),
+            turns: Lent::noise(rng, lengths.turns, |x| x as u32),
             fields: Lent::noise(rng, lengths.fields, |x| x as u32),
             part: None,
         }
@@ -68,6 +91,8 @@ impl Lents {
             self.words.difference(&other.words, "word"),
             self.bytes.difference(&other.bytes, "byte"),
             self.met.difference(&other.met, "card met"),
+            self.traffic.difference(&other.traffic, "count lent"),
+            self.turns.difference(&other.turns, "turns of caller"),
             self.fields.difference(&other.fields, "field"),
         ];
         let places: String = places.into_iter().flatten().collect();

@@ -58,7 +58,7 @@ fn racks_for_17() -> [Rack; 9] {
 }
 
 /// The plan that the second implementation writes.
-fn plan_of(rack: &Rack) -> Vec<u8> {
+pub fn plan_of(rack: &Rack) -> Vec<u8> {
     match plan(&rack.bytes()) {
         Ok(planned) => planned.bytes(),
         Err(_) => stop("FAILED: a rack of the named cases is refused"),

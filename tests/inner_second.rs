@@ -1,6 +1,7 @@
 //! What the calls of libtest_calls.a mean, by the rules alone, over the second implementation.
 
 use crate::inner_both::{Call, Kind, Name};
+use crate::inner_callers::{caller_walk, next_frame};
 use crate::inner_lent::Lents;
 use crate::second::columns::{differing_columns, first_of};
 use crate::second::conference::Ways;
@@ -32,6 +33,8 @@ pub fn ask(known: &mut Known, call: &Call, input: &[u8], lent: &mut Lents) -> u3
         Kind::Places => plan_places(call, input, lent),
         Kind::Step => step_frame(call, input, lent),
         Kind::Walk => walk_frame(call, input, lent),
+        Kind::CallerWalk => caller_walk(call, input, lent),
+        Kind::Choice => next_frame(call, lent),
         Kind::Conference => conference(known, call, input, lent),
         Kind::NewPlan => new_plan(&mut known.changer, call, input, lent),
     }
@@ -59,7 +62,7 @@ fn seen<'a>(call: &Call, input: &'a [u8]) -> &'a [u8] {
     }
 }
 
-fn put(lent: &mut Lents, fields: &[usize]) {
+pub fn put(lent: &mut Lents, fields: &[usize]) {
     for (place, &field) in lent.fields.items_mut().iter_mut().zip(fields) {
         *place = field as u32;
     }

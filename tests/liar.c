@@ -1,5 +1,5 @@
 /* Stands in for the library, for the tests of `jolvente check`, which leans on nothing that a walk says: LIE names what this walk says
- * falsely, on a plan that it always calls read. */
+ * falsely, on a plan that it always calls read, or the number with which it refuses. */
 #include <stdlib.h>
 #include <string.h>
 
@@ -29,8 +29,15 @@ uint32_t jolvente_read_plan(const uint8_t *plan, size_t plan_len, uint8_t *recor
     return lies("reading") ? 13 : 0;
 }
 
-/* Right for two cards and one link, and for cards 0 and 1 of the ring of four, but for the lie. */
-uint32_t jolvente_walk(const uint8_t *plan, size_t plan_len, uint32_t from, uint32_t goal, uint8_t *met, size_t met_len, uint8_t *record, size_t record_len)
+/* The number that LIE is, or 0 where it is a word. */
+static uint32_t lied_number(void)
+{
+    const char *asked = getenv("LIE");
+    return asked ? (uint32_t)strtoul(asked, NULL, 10) : 0;
+}
+
+/* Right for caller 0, for two cards and one link, and for cards 0 and 1 of the ring of four, but for the lie. */
+uint32_t jolvente_walk(const uint8_t *plan, size_t plan_len, uint32_t from, uint32_t goal, uint32_t caller, uint8_t *met, size_t met_len, uint8_t *record, size_t record_len)
 {
     uint32_t hops = lies("hops") ? 3 : lies("many") ? 4000000000u : lies("none") ? 0 : 1;
     (void)plan, (void)plan_len, (void)record_len;
@@ -46,5 +53,5 @@ uint32_t jolvente_walk(const uint8_t *plan, size_t plan_len, uint32_t from, uint
         memset(record + 4, 0xff, 4);
     put(record, 2, (uint32_t)record[8] + !lies("frames"));
     put(record, 3, (uint32_t)record[12] + (lies("counts") ? 2 : hops));
-    return lies("refusal") ? 15 : lies("number") ? 255 : 0;
+    return caller != 0 ? 18 : lied_number();
 }

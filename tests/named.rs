@@ -31,9 +31,9 @@ const PLANNED: [(&str, &str, u32, &str); 8] = [
 ];
 
 const P5_WIRING: &str = "04 00 04 00 00 00 01 00 02 00 03 00 01 00 02 00 03 00 00 00";
-const P5_PLAN: &str =
+pub const P5_PLAN: &str =
     "04 00 04 00 02 00 00 00 01 00 02 00 03 00 01 00 02 00 03 00 00 00 00 01 03 02";
-const P10_PLAN: &str =
+pub const P10_PLAN: &str =
     "04 00 04 00 02 00 00 00 01 00 02 00 03 00 01 00 02 00 03 00 00 00 00 01 00 02";
 
 pub fn check(both: &mut Both) {
@@ -60,7 +60,7 @@ pub fn check(both: &mut Both) {
     planned(both, "2,049 links", &rack.bytes(), 4, &[]);
 }
 
-fn bytes(hex: &str) -> Vec<u8> {
+pub fn bytes(hex: &str) -> Vec<u8> {
     let byte = |pair| u8::from_str_radix(pair, 16).expect("a pair of hexadecimal digits");
     hex.split_whitespace().map(byte).collect()
 }
@@ -89,16 +89,16 @@ fn planned(both: &mut Both, name: &str, wiring: &[u8], code: u32, plan: &[u8]) {
     }
 }
 
-/// A walk with counts 7 and 9 on entry.
+/// A walk of caller 0, with counts 7 and 9 on entry.
 fn walked(
     both: &mut Both,
     name: &str,
     plan: &[u8],
-    [from, to]: [u32; 2],
+    ends: [u32; 2],
     met: &[usize],
     record: [u32; 4],
 ) {
-    let answer = both.walk(plan, from, to, [7, 9]);
+    let answer = both.walk(plan, ends, 0, [7, 9]);
     let behind = &answer.result()[2 * met.len()..];
     let right = answer.code == 0
         && answer.met() == met

@@ -14,7 +14,7 @@ static ucontext_t back, there;
 
 static uint8_t wiring[JOLVENTE_WIRING_BYTES + 1], plan[JOLVENTE_PLAN_BYTES], met[JOLVENTE_MET_BYTES], record[JOLVENTE_RECORD_BYTES];
 static size_t wiring_length, plan_length;
-static uint32_t from, goal;
+static uint32_t from, goal, caller;
 
 static void nothing(void)
 {
@@ -32,7 +32,7 @@ static void read_plan(void)
 
 static void walk(void)
 {
-    jolvente_walk(plan, plan_length, from, goal, met, sizeof met, record, sizeof record);
+    jolvente_walk(plan, plan_length, from, goal, caller, met, sizeof met, record, sizeof record);
 }
 
 /* How many bytes of a painted stack a call changes. */
@@ -70,7 +70,8 @@ static void measure(struct call *call)
         call->most = now;
 }
 
-/* Plans a wiring, reads the plan, and walks from its first card to its last and back. A wiring that is refused leaves no plan. */
+/* Plans a wiring, reads the plan, and walks from its first card to its last, as caller 0, and back, as caller 15. A wiring that is
+ * refused leaves no plan. */
 static void try_wiring(const char *name)
 {
     FILE *file = fopen(name, "rb");
@@ -86,9 +87,9 @@ static void try_wiring(const char *name)
     last = plan_length ? plan[0] + 256u * plan[1] - 1 : 0;
     measure(&calls[1]);
     memset(record, 0, sizeof record);
-    from = 0, goal = last;
+    from = 0, goal = last, caller = 0;
     measure(&calls[2]);
-    from = last, goal = 0;
+    from = last, goal = 0, caller = 15;
     measure(&calls[2]);
 }
 

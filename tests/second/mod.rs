@@ -1,6 +1,7 @@
-//! A second implementation of planning, plan reading, walking, columns, conference cards and a card more or less, written from the
-//! rules alone. The tests compare it with the calls, and the benchmark times it beside those for C.
+//! A second implementation of planning, plan reading, walking, columns, callers and their turns, conference cards and a card more or less,
+//! written from the rules alone. The tests compare it with the calls, and the benchmark times it beside those for C.
 
+pub mod callers;
 pub mod columns;
 pub mod conference;
 pub mod last_card;
@@ -15,6 +16,7 @@ pub const MET_BYTES: usize = 512;
 pub const RECORD_BYTES: usize = 16;
 
 pub const MOST_CARDS: usize = 256;
+pub const CALLERS: u32 = 16;
 const MOST_LINKS: usize = 2_048;
 const MOST_COLUMNS: usize = 255;
 
@@ -94,8 +96,15 @@ pub fn read_plan(plan: &[u8], record: &mut [u8]) -> u32 {
     }
 }
 
-/// The meaning of `jolvente_walk`.
-pub fn walk(plan: &[u8], from: u32, to: u32, met: &mut [u8], record: &mut [u8]) -> u32 {
+/// The meaning of `jolvente_walk`. The counts in the record are the caller's.
+pub fn walk(
+    plan: &[u8],
+    from: u32,
+    to: u32,
+    caller: u32,
+    met: &mut [u8],
+    record: &mut [u8],
+) -> u32 {
     if met.len() != MET_BYTES || record.len() != RECORD_BYTES {
         return 1;
     }
@@ -103,6 +112,9 @@ pub fn walk(plan: &[u8], from: u32, to: u32, met: &mut [u8], record: &mut [u8]) 
         Ok(layout) => layout,
         Err(refusal) => return refusal.code(),
     };
+    if caller >= CALLERS {
+        return 18;
+    }
     let (from, to) = (from as usize, to as usize);
     if from >= layout.cards || to >= layout.cards {
         return 14;

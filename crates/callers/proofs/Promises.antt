@@ -4,17 +4,19 @@ use Prim.Native.Nat.{suc}
 use native.Mathlib.Omega.{arith}
 use lib.ListN.{length}
 use borrow.Author.Tests.{ne-eqb}
+use Rattle.rack.specs.Hops.{hops}
+use Rattle.rack.specs.PlanFile.{plan-wiring}
 use Rattle.reader.specs.Reading.{layout-refusal}
 use Rattle.forwarder.specs.Promises.{Stuck-uncounted}
 use Rattle.forwarder.proofs.Promises.{stuck-uncounted}
 use Rattle.turns.specs.Turns.{frame-goal, frame-caller}
 use Rattle.traffic.specs.Traffic.{tally-of}
-use Rattle.traffic.specs.Promises.{Caller-refused, Others-kept, None-counted}
+use Rattle.traffic.specs.Promises.{Caller-refused, Others-kept, Caller-counted, None-counted}
 use Rattle.traffic.proofs.CallerRefusal.{layout-clear, a-caller}
-use Rattle.traffic.proofs.Promises.{caller-refused, others-kept, none-counted}
+use Rattle.traffic.proofs.Promises.{caller-refused, others-kept, caller-counted, none-counted}
 use Rattle.callers.specs.Walking.{caller-walk-refusal}
 use Rattle.callers.specs.Promises.{Caller-walk-arrives, Caller-walk-full, Lent-walk-arrives, Lent-walk-full, Caller-walk-refused}
-use Rattle.callers.specs.Promises.{Others-unseen, Others-uncounted, Refused-uncounted, Caller-stuck-uncounted}
+use Rattle.callers.specs.Promises.{Arrival-counted, Others-unseen, Others-uncounted, Refused-uncounted, Caller-stuck-uncounted}
 use Rattle.callers.proofs.Refused.{own-number, eighteen-only, eighteen-said, lent-short, lent-whole, nineteen-only, lent-eighteen-only}
 use Rattle.callers.proofs.Answers.{as-walked, walk-says}
 use Rattle.callers.proofs.Delivery.{arrives, full, lent-arrives, lent-full}
@@ -46,6 +48,11 @@ lent-walk-full ps a f t r old new s read from whole goal caller room never =
     lent-full ps a f t r old new s
     (record { whole = whole; frame = record { frame = record { read = read; from = from; goal = goal; room = room }; caller = omega arith } })
     (λ take. let passed = never (take .0) in omega (arith, take .1))
+
+pub arrival-counted : Arrival-counted
+unfolding Arrival-counted Caller-counted
+arrival-counted ps a b u t r new arrived frames total low =
+    rw (arrived .traffic) (caller-counted t u (hops (plan-wiring ps) a b) (omega arith) (omega arith))
 
 -- 18 AND 19, exactly
 pub caller-walk-refused : Caller-walk-refused

@@ -6,7 +6,7 @@ use mathlib.Core.Logic.{_↔_, _≢_}
 use mathlib.Core.List.{List}
 use Prim.Native.Nat.{ℕ, suc, _+_, _≤_, _<_}
 use lib.ListN.{length, getD}
-use Rattle.rack.specs.Limits.{most-traffic}
+use Rattle.rack.specs.Limits.{most-callers, most-traffic}
 use Rattle.rack.specs.Hops.{hops}
 use Rattle.rack.specs.PlanFile.{plan-cards, plan-wiring}
 use Rattle.reader.specs.Plan.{layout-holds, plan-refusal}
@@ -51,7 +51,15 @@ Lent-walk-full =
     most-traffic < getD (t .hops) (frame-caller f) 0 + hops (plan-wiring ps) a (frame-goal f)) →
     Caller-full t r old new
 
--- when the new numbers are said: 18 after 1, 12 and 19, 19 after 1 and 12, exactly where a caller is over 15 or a frame has fewer than three bytes
+-- what a frame that arrived raises: its caller's frames by one and their hops by its own. Each list of a record has a number for each caller
+unfoldable pub Arrival-counted : Type 0
+Arrival-counted =
+    (ps : List ℕ) (a b u : ℕ) (t : Traffic) (r : CallerWalk) (new : List ℕ) → Caller-arrived ps a b u t r new →
+    length (t .frames) ≡ most-callers → length (t .hops) ≡ most-callers → u ≤ 15 →
+    (getD (r .traffic .frames) u 0 ≡ suc (getD (t .frames) u 0))
+    × (getD (r .traffic .hops) u 0 ≡ getD (t .hops) u 0 + hops (plan-wiring ps) a b)
+
+-- 18 after 1, 12 and 19, and 19 after 1 and 12: exactly where a caller is over 15, or a frame has fewer than three bytes
 unfoldable pub Caller-walk-refused : Type 0
 Caller-walk-refused =
     ((ps : List ℕ) (a b u : ℕ) (t : Traffic) (room : ℕ) →

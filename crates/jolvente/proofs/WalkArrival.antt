@@ -13,6 +13,7 @@ use Rattle.rack.specs.PlanFile.{plan-wiring}
 use Rattle.rack.proofs.Logic.{and-left, and-right}
 use Rattle.rack.proofs.WiringFile.{wiring-at-cards}
 use Rattle.rack.proofs.Zeros.{zeros-at}
+use Rattle.reader.specs.Reading.{layout-refusal}
 use Rattle.reader.proofs.Plan.{layout-facts}
 use Rattle.reader.proofs.Promises.{read-measured}
 use Rattle.forwarder.specs.Forwarding.{Walk, walk}
@@ -20,6 +21,8 @@ use Rattle.forwarder.specs.Calls.{lent-met, walk-hops, walk-refusal, Walk-says,
 use Rattle.forwarder.specs.declared.walk.Tally.{Tally}
 use Rattle.forwarder.specs.declared.walk.Walked.{Walked}
 use Rattle.forwarder.proofs.Arrival.{walk-arrived, walk-full}
+use Rattle.traffic.specs.Traffic.{caller-refusal}
+use Rattle.traffic.proofs.CallerRefusal.{a-caller}
 use Rattle.jolvente.specs.Records.{lent-record, lent-met-bytes, record-bytes, cards-in, counts-in, walked-in}
 use Rattle.jolvente.specs.CCalls.{c-walk-refusal, met-bytes, walk-record, C-walk-says, C-frame, C-full}
 use Rattle.jolvente.proofs.RecordBytes.{Reads, record-reads, cards-read}
@@ -39,7 +42,7 @@ padded-below n [] k h small i = omega (arith, zeros-at k (replicate k 0) refl i)
 padded-below n (x ∷ xs) k h small zero = small 0
 padded-below n (x ∷ xs) k h small (suc i) = padded-below n xs k h (λ j. small (suc j)) i
 
-module _ (ps : List ℕ) (a b r : ℕ) (met met-now rec rec-now : List ℕ) (s : C-walk-says ps a b r met met-now rec rec-now) (f : C-frame ps a b met rec)
+module _ (ps : List ℕ) (a b u r : ℕ) (met met-now rec rec-now : List ℕ) (s : C-walk-says ps a b u r met met-now rec rec-now) (f : C-frame ps a b u met rec)
     (old : List ℕ) (many : length old ≡ lent-met) where
   abbrev t : Tally
   t = counts-in rec
@@ -63,13 +66,17 @@ module _ (ps : List ℕ) (a b r : ℕ) (met met-now rec rec-now : List ℕ) (s :
   abbrev left : List ℕ
   left = cond (eqb r 0) cards old
 
+  called : caller-refusal ps u ≡ 0
+  unfolding layout-refusal
+  called = a-caller ps u (rw (read-measured ps (f .read) .layout) refl) (f .caller)
+
   answer-says : Walk-says ps a b t answer old left
   unfolding c-walk-refusal
   answer-says =
       record {
         number =
             s .answer
-            ∙ rw (eq-eqb (length met) lent-met-bytes (f .room), eq-eqb (length rec) lent-record (f .record-room)) refl
+            ∙ rw (eq-eqb (length met) lent-met-bytes (f .room), eq-eqb (length rec) lent-record (f .record-room), eq-eqb (caller-refusal ps u) 0 called) refl
             ∙ ap (walk-refusal ps a b t) (sym many);
         arrived = refl;
         hops = refl;
@@ -138,15 +145,15 @@ module _ (ps : List ℕ) (a b r : ℕ) (met met-now rec rec-now : List ℕ) (s :
         }
 
 -- what the C walk says, with what follows of it for a frame
-module _ (ps : List ℕ) (a b r : ℕ) (met met-now rec rec-now : List ℕ) (s : C-walk-says ps a b r met met-now rec rec-now) where
-  pub arrives : C-frame ps a b met rec → Can-take (counts-in rec) (hops (plan-wiring ps) a b)
+module _ (ps : List ℕ) (a b u r : ℕ) (met met-now rec rec-now : List ℕ) (s : C-walk-says ps a b u r met met-now rec rec-now) where
+  pub arrives : C-frame ps a b u met rec → Can-take (counts-in rec) (hops (plan-wiring ps) a b)
       → Arrived ps a b (counts-in rec) (walked-in r rec-now) (cards-in met-now)
-  arrives f take = c-arrived ps a b r met met-now rec rec-now s f (replicate lent-met 0) (length-replicate {A = ℕ} lent-met 0) take
+  arrives f take = c-arrived ps a b u r met met-now rec rec-now s f (replicate lent-met 0) (length-replicate {A = ℕ} lent-met 0) take
 
-  pub full : C-frame ps a b met rec → (Can-take (counts-in rec) (hops (plan-wiring ps) a b) → ⊥) → C-full r met met-now rec rec-now
-  full f never = c-full ps a b r met met-now rec rec-now s f (replicate lent-met 0) (length-replicate {A = ℕ} lent-met 0) never
+  pub full : C-frame ps a b u met rec → (Can-take (counts-in rec) (hops (plan-wiring ps) a b) → ⊥) → C-full r met met-now rec rec-now
+  full f never = c-full ps a b u r met met-now rec rec-now s f (replicate lent-met 0) (length-replicate {A = ℕ} lent-met 0) never
 
-  pub with-c-arrival : C-walk-says ps a b r met met-now rec rec-now
-      × ((C-frame ps a b met rec → Can-take (counts-in rec) (hops (plan-wiring ps) a b) → Arrived ps a b (counts-in rec) (walked-in r rec-now) (cards-in met-now))
-      × (C-frame ps a b met rec → (Can-take (counts-in rec) (hops (plan-wiring ps) a b) → ⊥) → C-full r met met-now rec rec-now))
+  pub with-c-arrival : C-walk-says ps a b u r met met-now rec rec-now
+      × ((C-frame ps a b u met rec → Can-take (counts-in rec) (hops (plan-wiring ps) a b) → Arrived ps a b (counts-in rec) (walked-in r rec-now) (cards-in met-now))
+      × (C-frame ps a b u met rec → (Can-take (counts-in rec) (hops (plan-wiring ps) a b) → ⊥) → C-full r met met-now rec rec-now))
   with-c-arrival = (s, (arrives, full))

@@ -6,7 +6,7 @@ use Prim.Native.Nat.{ℕ, _+_, _*_, _-_, _%_, _<_}
 use lib.Dec.{eqb}
 use lib.ListN.{length, replicate}
 use Rattle.rack.specs.Refusals.{Refusal, refusal}
-use Rattle.rack.specs.Limits.{lent-plan}
+use Rattle.rack.specs.Limits.{most-callers, lent-plan}
 use Rattle.rack.specs.Hops.{connected}
 use Rattle.rack.specs.WiringFile.{file-wiring, form-refusal}
 use Rattle.planner.specs.PlanBytes.{plan-bytes}
@@ -16,6 +16,7 @@ use Rattle.reader.specs.Plan.{plan-refusal}
 use Rattle.forwarder.specs.Forwarding.{Walk, walk}
 use Rattle.forwarder.specs.Calls.{lent-met, walk-hops, walk-refusal}
 use Rattle.forwarder.specs.declared.walk.Tally.{Tally}
+use Rattle.traffic.specs.Traffic.{caller-refusal}
 use Rattle.jolvente.specs.Records.{lent-record, lent-met-bytes, record-bytes, card-bytes, counts-in}
 
 -- the number, plus 256 times the link or card that it carries
@@ -52,11 +53,12 @@ pub record C-read-says (ps : List ℕ) (r : ℕ) (rec rec-now : List ℕ) : Type
   pub answer : r ≡ c-read-refusal ps (length rec)
   pub record-left : rec-now ≡ cond (eqb r 0) (record-bytes (plan-cards ps) (plan-links ps) (plan-columns ps) 0) rec
 
--- THE WALK: 1, 12, 14, 15. The cards met with zeros behind them, and a record of how it ended, its hops and the counts,
+-- THE WALK: 1, 12, 18, 14, 15. The cards met with zeros behind them, and a record of how it ended, its hops and the caller's counts,
 -- raised where it arrived; with a refusal all is as it was
-unfoldable pub c-walk-refusal : List ℕ → (a b room : ℕ) → (rec : List ℕ) → ℕ
-c-walk-refusal ps a b n rec =
-    cond (eqb n lent-met-bytes && eqb (length rec) lent-record) (walk-refusal ps a b (counts-in rec) lent-met) 1
+unfoldable pub c-walk-refusal : List ℕ → (a b caller room : ℕ) → (rec : List ℕ) → ℕ
+c-walk-refusal ps a b u n rec =
+    cond (eqb n lent-met-bytes && eqb (length rec) lent-record)
+    (cond (eqb (caller-refusal ps u) 0) (walk-refusal ps a b (counts-in rec) lent-met) (caller-refusal ps u)) 1
 
 unfoldable pub met-bytes : Walk → List ℕ
 met-bytes v = card-bytes (v .met ++ replicate (lent-met - length (v .met)) 0)
@@ -65,18 +67,19 @@ unfoldable pub walk-record : Walk → Tally → List ℕ
 walk-record v t =
     record-bytes (v .arrived) (walk-hops v) (t .frames + v .arrived) (t .hops + v .arrived * walk-hops v)
 
-pub record C-walk-says (ps : List ℕ) (a b r : ℕ) (met met-now rec rec-now : List ℕ) : Type 0 where
-  pub answer : r ≡ c-walk-refusal ps a b (length met) rec
+pub record C-walk-says (ps : List ℕ) (a b u r : ℕ) (met met-now rec rec-now : List ℕ) : Type 0 where
+  pub answer : r ≡ c-walk-refusal ps a b u (length met) rec
   pub met-left : met-now ≡ cond (eqb r 0) (met-bytes (walk ps a b)) met
   pub record-left : rec-now ≡ cond (eqb r 0) (walk-record (walk ps a b) (counts-in rec)) rec
 
--- DEMAND 3 of the walk is said of what C reads back. A frame: its plan was read, both numbers are cards, and the lent
--- bytes have their lengths
-pub record C-frame (ps : List ℕ) (a b : ℕ) (met rec : List ℕ) : Type 0 where
+-- DEMAND 3 of the walk is said of what C reads back. A frame: its plan was read, both numbers are cards, its caller is one of the 16, and
+-- the lent bytes have their lengths
+pub record C-frame (ps : List ℕ) (a b u : ℕ) (met rec : List ℕ) : Type 0 where
   pub read : plan-refusal ps ≡ 0
   -- both are cards of the plan
   pub from : a < plan-cards ps
   pub goal : b < plan-cards ps
+  pub caller : u < most-callers
   pub room : length met ≡ lent-met-bytes
   pub record-room : length rec ≡ lent-record
 

@@ -17,6 +17,7 @@ use records::LENT_MET_BYTES;
 use records::LENT_RECORD;
 use records::put_cards;
 use records::put_record;
+use traffic::caller_fault;
 
 mod records;
 
@@ -54,24 +55,29 @@ pub extern "C" fn jolvente_read_plan(plan: &[u8], record: &mut [u8]) -> u32
     0
 }
 
-// Walks a frame: 1, 12, 14, 15. The record has how it ended, its hops, and the counts, which it had at entry.
+// Walks a frame of a caller: 1, 12, 18, 14, 15. The record has how it ended, its hops, and the caller's counts, which it had at entry.
 #[no_mangle]
 pub extern "C" fn jolvente_walk(
     plan: &[u8],
     from: u32,
     goal: u32,
+    caller: u32,
     met: &mut [u8],
     record: &mut [u8],
 ) -> u32
-    ensures says { λ r. ⌜ C-walk-says (now (plan .entry)) from goal r (now (met .entry)) (now (met .exit)) (now («record» .entry)) (now («record» .exit)) ⌝ }
-    ensures arrives { λ r. ⌜ (C-frame (now (plan .entry)) from goal (now (met .entry)) (now («record» .entry)) → Can-take (counts-in (now («record» .entry))) (hops (plan-wiring (now (plan .entry))) from goal) → Arrived (now (plan .entry)) from goal (counts-in (now («record» .entry))) (walked-in r (now («record» .exit))) (cards-in (now (met .exit)))) ⌝ }
-    ensures full { λ r. ⌜ (C-frame (now (plan .entry)) from goal (now (met .entry)) (now («record» .entry)) → (Can-take (counts-in (now («record» .entry))) (hops (plan-wiring (now (plan .entry))) from goal) → ⊥) → C-full r (now (met .entry)) (now (met .exit)) (now («record» .entry)) (now («record» .exit))) ⌝ }
+    ensures says { λ r. ⌜ C-walk-says (now (plan .entry)) from goal caller r (now (met .entry)) (now (met .exit)) (now («record» .entry)) (now («record» .exit)) ⌝ }
+    ensures arrives { λ r. ⌜ (C-frame (now (plan .entry)) from goal caller (now (met .entry)) (now («record» .entry)) → Can-take (counts-in (now («record» .entry))) (hops (plan-wiring (now (plan .entry))) from goal) → Arrived (now (plan .entry)) from goal (counts-in (now («record» .entry))) (walked-in r (now («record» .exit))) (cards-in (now (met .exit)))) ⌝ }
+    ensures full { λ r. ⌜ (C-frame (now (plan .entry)) from goal caller (now (met .entry)) (now («record» .entry)) → (Can-take (counts-in (now («record» .entry))) (hops (plan-wiring (now (plan .entry))) from goal) → ⊥) → C-full r (now (met .entry)) (now (met .exit)) (now («record» .entry)) (now («record» .exit))) ⌝ }
 {
     if met.len() != LENT_MET_BYTES {
         return 1;
     }
     if record.len() != LENT_RECORD {
         return 1;
+    }
+    let fault = caller_fault(plan, caller);
+    if fault != 0 {
+        return fault;
     }
     let tally = Tally {
         frames: number32_at(record, 8),

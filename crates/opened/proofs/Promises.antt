@@ -14,9 +14,11 @@ use Rattle.reader.specs.Plan.{layout-holds, plan-refusal}
 use Rattle.reader.specs.Promises.{Refused-address-empty, No-such-card}
 use Rattle.reader.specs.Reading.{layout-refusal, address-part, address-refusal}
 use Rattle.reader.proofs.Promises.{read-measured, refused-address-empty, no-such-card}
-use Rattle.forwarder.specs.Calls.{step-refusal, walk-refusal}
-use Rattle.crossing.specs.Crossing.{Frame-step-says, Frame-walk-says}
+use Rattle.forwarder.specs.Calls.{step-refusal}
+use Rattle.crossing.specs.Crossing.{Frame-step-says}
 use Rattle.conference.specs.Conference.{three-refusal, conference-refusal, Conference-says}
+use Rattle.traffic.specs.Traffic.{caller-refusal}
+use Rattle.callers.specs.Walking.{caller-walk-refusal, Caller-walk-says}
 use Rattle.opened.specs.Opening.{carries, opened-bytes, Opening-says, Walk-with-arrival}
 use Rattle.opened.specs.Promises.{Sizes-carried, Carries-exactly, Opening-whole, Twelve-in-every-call, Refused-opening, Other-sizes}
 use Rattle.opened.specs.Promises.{Refused-opening-empty, Opened-frame-arrives, Opened-step-own, Opened-walk-own, Opened-conference-own, Opened-address-own, Opened-address-refused}
@@ -25,14 +27,14 @@ use Rattle.opened.proofs.Carrying.{carried-bytes-whole, carried-bytes-n
 
 -- NO BYTES are 12 in every call
 no-bytes-twelve : Twelve-in-every-call []
-unfolding plan-refusal layout-refusal layout-holds address-refusal address-part step-refusal walk-refusal conference-refusal three-refusal
+unfolding plan-refusal layout-refusal layout-holds address-refusal address-part step-refusal caller-refusal caller-walk-refusal conference-refusal three-refusal
 no-bytes-twelve =
     record {
       read = refl;
       address = λ c. refl;
       part = λ c. refl;
       step = λ a b. refl;
-      walk = λ a b t. refl;
+      walk = λ a b u t. refl;
       conference = λ a b c. refl;
     }
 
@@ -137,8 +139,8 @@ refused-opening qs at p s n = carried-twelve p (refused-carries qs at p s n)
 
 pub opened-frame-arrives : Opened-frame-arrives
 unfolding Opened-frame-arrives
-opened-frame-arrives p a b t r old new z f c w =
-    subst (λ (qs : List ℕ). Walk-with-arrival qs a b t r old new) (read-whole p (f .read) z) w .arrives f c
+opened-frame-arrives p a b u t r old new z f c w =
+    subst (λ (qs : List ℕ). Walk-with-arrival qs a b u t r old new) (read-whole p (f .frame .read) z) w .arrives f c
 
 pub opened-step-own : Opened-step-own
 unfolding Opened-step-own
@@ -146,7 +148,7 @@ opened-step-own p a b r l z says = subst (λ (qs : List ℕ). Frame-step-says qs
 
 pub opened-walk-own : Opened-walk-own
 unfolding Opened-walk-own
-opened-walk-own p a b t r old new l z w = subst (λ (qs : List ℕ). Frame-walk-says qs a b t r old new) (layout-whole p l z) (w .says)
+opened-walk-own p a b u t r old new l z w = subst (λ (qs : List ℕ). Caller-walk-says qs a b u t r old new) (layout-whole p l z) (w .says)
 
 pub opened-conference-own : Opened-conference-own
 unfolding Opened-conference-own

@@ -6,16 +6,14 @@ use Prim.Native.Nat.{ℕ}
 use lib.Dec.{eqb}
 use denote.Ref.{now}
 use Rattle.rack.specs.Buffers.{Slice-is}
-use Rattle.rack.specs.Hops.{hops}
-use Rattle.rack.specs.PlanFile.{plan-cards, plan-links, plan-columns, plan-wiring}
+use Rattle.rack.specs.PlanFile.{plan-cards, plan-links, plan-columns}
 use Rattle.reader.specs.Plan.{layout-holds, plan-refusal}
 use Rattle.reader.specs.Promises.{Measured}
 use Rattle.reader.specs.Reading.{Read-says}
 use Rattle.reader.specs.declared.layout.Sizes.{Sizes}
-use Rattle.forwarder.specs.Calls.{Frame, Arrived, Full, Can-take}
-use Rattle.forwarder.specs.declared.walk.Tally.{Tally}
-use Rattle.crossing.specs.Crossing.{Frame-walk-says}
-use Rattle.crossing.specs.declared.FrameWalk.{FrameWalk}
+use Rattle.traffic.specs.declared.Traffic.{Traffic}
+use Rattle.callers.specs.Walking.{Caller-walk-says, Caller-frame, Caller-can-take, Caller-arrived, Caller-full}
+use Rattle.callers.specs.declared.CallerWalk.{CallerWalk}
 use Rattle.opened.specs.declared.Opened.{Opened}
 
 -- the bytes have a plan's layout, and the sizes carried with them are those in them
@@ -43,8 +41,9 @@ pub record Read-with-promise (ps : List ℕ) (r : Sizes) : Type 0 where
   pub says : Read-says ps r
   pub promise : r .number ≡ 0 → Measured ps
 
--- a walk, with demand 3 (docs/REQUIREMENTS.md): a frame that the counts can take arrives by the fewest links, and any other is 15
-pub record Walk-with-arrival (ps : List ℕ) (a b : ℕ) (t : Tally) (r : FrameWalk) (old new : List ℕ) : Type 0 where
-  pub says : Frame-walk-says ps a b t r old new
-  pub arrives : Frame ps a b old → Can-take t (hops (plan-wiring ps) a b) → Arrived ps a b t (r .walked) new
-  pub full : Frame ps a b old → (Can-take t (hops (plan-wiring ps) a b) → ⊥) → Full t (r .walked) old new
+-- a walk by caller, with demand 3 (docs/REQUIREMENTS.md): a frame that its caller's counts can take arrives by the fewest links, and any other
+-- is 15
+pub record Walk-with-arrival (ps : List ℕ) (a b u : ℕ) (t : Traffic) (r : CallerWalk) (old new : List ℕ) : Type 0 where
+  pub says : Caller-walk-says ps a b u t r old new
+  pub arrives : Caller-frame ps a b u old → Caller-can-take ps a b u t → Caller-arrived ps a b u t r new
+  pub full : Caller-frame ps a b u old → (Caller-can-take ps a b u t → ⊥) → Caller-full t r old new

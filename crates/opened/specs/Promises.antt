@@ -6,17 +6,17 @@ use mathlib.Core.Logic.{_↔_, _≢_}
 use Prim.Native.Nat.{ℕ, _≤_}
 use denote.Ref.{RefT, now}
 use Rattle.rack.specs.Buffers.{Slice-is}
-use Rattle.rack.specs.Hops.{hops}
-use Rattle.rack.specs.PlanFile.{plan-cards, plan-links, plan-columns, plan-wiring}
+use Rattle.rack.specs.PlanFile.{plan-cards, plan-links, plan-columns}
 use Rattle.reader.specs.Plan.{layout-holds, plan-refusal}
 use Rattle.reader.specs.Reading.{address-part, address-refusal, Address-says}
-use Rattle.forwarder.specs.Calls.{step-refusal, lent-met, walk-refusal, Frame, Arrived, Can-take}
-use Rattle.forwarder.specs.declared.walk.Tally.{Tally}
-use Rattle.crossing.specs.Crossing.{Frame-step-says, Frame-walk-says}
+use Rattle.forwarder.specs.Calls.{step-refusal, lent-met}
+use Rattle.crossing.specs.Crossing.{Frame-step-says}
 use Rattle.crossing.specs.declared.FrameStep.{FrameStep}
-use Rattle.crossing.specs.declared.FrameWalk.{FrameWalk}
 use Rattle.conference.specs.Conference.{conference-refusal, Conference-says}
 use Rattle.conference.specs.declared.Conference.{Conference}
+use Rattle.traffic.specs.declared.Traffic.{Traffic}
+use Rattle.callers.specs.Walking.{caller-walk-refusal, Caller-walk-says, Caller-frame, Caller-can-take, Caller-arrived}
+use Rattle.callers.specs.declared.CallerWalk.{CallerWalk}
 use Rattle.opened.specs.Opening.{carries, opened-bytes, Opening-says, Walk-with-arrival}
 use Rattle.opened.specs.declared.Opened.{Opened}
 
@@ -49,7 +49,7 @@ pub record Twelve-in-every-call (ps : List ℕ) : Type 0 where
   pub address : (c : ℕ) → address-refusal ps c ≡ 12
   pub part : (c : ℕ) → address-part ps c ≡ []
   pub step : (a b : ℕ) → step-refusal ps a b ≡ 12
-  pub walk : (a b : ℕ) (t : Tally) → walk-refusal ps a b t lent-met ≡ 12
+  pub walk : (a b u : ℕ) (t : Traffic) → caller-walk-refusal ps a b u t lent-met ≡ 12
   pub conference : (a b c : ℕ) → conference-refusal ps a b c ≡ 12
 
 -- a refused opening, and sizes that differ from those in the bytes
@@ -59,12 +59,12 @@ Refused-opening = (ps : List ℕ) (at : ℕ × ℕ) (p : Opened) → Opening-say
 unfoldable pub Other-sizes : Type 0
 Other-sizes = (p : Opened) → (Sizes-carried p → ⊥) → Twelve-in-every-call (opened-bytes p)
 
--- demand 3: a frame whose plan was read, and whose carried sizes are those in the bytes, arrives by the fewest links
+-- demand 3 by caller: a frame whose plan was read, and whose carried sizes are those in the bytes, arrives by the fewest links
 unfoldable pub Opened-frame-arrives : Type 0
 Opened-frame-arrives =
-    (p : Opened) (a b : ℕ) (t : Tally) (r : FrameWalk) (old new : List ℕ) →
-    Sizes-carried p → Frame (now (p .bytes)) a b old → Can-take t (hops (plan-wiring (now (p .bytes))) a b) →
-    Walk-with-arrival (opened-bytes p) a b t r old new → Arrived (now (p .bytes)) a b t (r .walked) new
+    (p : Opened) (a b u : ℕ) (t : Traffic) (r : CallerWalk) (old new : List ℕ) →
+    Sizes-carried p → Caller-frame (now (p .bytes)) a b u old → Caller-can-take (now (p .bytes)) a b u t →
+    Walk-with-arrival (opened-bytes p) a b u t r old new → Caller-arrived (now (p .bytes)) a b u t r new
 
 -- on a plan with its layout, read or not, whose carried sizes are those in the bytes, a step and a walk answer as on the plan's own bytes: with
 -- their columns, and with what the walk leaves
@@ -75,8 +75,8 @@ Opened-step-own =
 
 unfoldable pub Opened-walk-own : Type 0
 Opened-walk-own =
-    (p : Opened) (a b : ℕ) (t : Tally) (r : FrameWalk) (old new : List ℕ) → layout-holds (now (p .bytes)) ≡ true → Sizes-carried p →
-    Walk-with-arrival (opened-bytes p) a b t r old new → Frame-walk-says (now (p .bytes)) a b t r old new
+    (p : Opened) (a b u : ℕ) (t : Traffic) (r : CallerWalk) (old new : List ℕ) → layout-holds (now (p .bytes)) ≡ true → Sizes-carried p →
+    Walk-with-arrival (opened-bytes p) a b u t r old new → Caller-walk-says (now (p .bytes)) a b u t r old new
 
 -- three cards of a plan that was read, and whose carried sizes are those in the bytes, get the answer of the plan's own bytes
 unfoldable pub Opened-conference-own : Type 0

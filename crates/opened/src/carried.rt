@@ -9,17 +9,17 @@ ghost use Rattle.reader.specs.Reading.{Address-says, address-refusal};
 ghost use Rattle.crossing.specs.Crossing.{Frame-step-says};
 ghost use Rattle.conference.specs.Conference.{Card-or-none, Conference-says};
 ghost use Rattle.opened.specs.Opening.{carries, carried-bytes, Read-with-promise, Walk-with-arrival};
+use callers::CallerWalk;
+use callers::walk_by_caller;
 use conference::Conference;
 use conference::conference_card;
 use crossing::FrameStep;
-use crossing::FrameWalk;
 use crossing::step_frame;
-use crossing::walk_frame;
-use forwarder::walk::Tally;
 use reader::layout::Sizes;
 use reader::layout::plan_layout;
 use reader::read::card_address;
 use reader::read::read_plan;
+use traffic::Traffic;
 
 // The bytes themselves, or with a refusal none of them.
 pub fn bytes_unless<'a>(bytes: &'a [u8], number: u32) -> &'a [u8]
@@ -110,7 +110,7 @@ pub fn step_carried(
     step_frame(carried_bytes(bytes, cards, links, columns), from, goal)
 }
 
-// A frame's walk, with the first column that it crosses: 1, 12, 14, 15.
+// A walk by caller, with the first column that it crosses: 1, 12, 18, 14, 15.
 pub fn walk_carried(
     bytes: &[u8],
     cards: u32,
@@ -118,16 +118,18 @@ pub fn walk_carried(
     columns: u32,
     from: u32,
     goal: u32,
-    tally: Tally,
+    caller: u32,
+    traffic: Traffic,
     met: &mut [u16],
-) -> FrameWalk
-    ensures { λ r. ⌜ Walk-with-arrival (carried-bytes (now (bytes .entry)) cards links columns) from goal tally r (now (met .entry)) (now (met .exit)) ⌝ }
+) -> CallerWalk
+    ensures { λ r. ⌜ Walk-with-arrival (carried-bytes (now (bytes .entry)) cards links columns) from goal caller traffic r (now (met .entry)) (now (met .exit)) ⌝ }
 {
-    walk_frame(
+    walk_by_caller(
         carried_bytes(bytes, cards, links, columns),
         from,
         goal,
-        tally,
+        caller,
+        traffic,
         met,
     )
 }

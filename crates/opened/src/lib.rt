@@ -11,12 +11,12 @@ use crate::carried::conference_carried;
 use crate::carried::read_carried;
 use crate::carried::step_carried;
 use crate::carried::walk_carried;
+use callers::CallerWalk;
 use conference::Conference;
 use crossing::FrameStep;
-use crossing::FrameWalk;
-use forwarder::walk::Tally;
 use reader::layout::Sizes;
 use reader::read::read_plan;
+use traffic::Traffic;
 
 pub mod carried;
 
@@ -73,9 +73,17 @@ impl<'a> Opened<'a> {
         step_carried(self.bytes, self.cards, self.links, self.columns, from, goal)
     }
 
-    // A frame's walk, with the first column that it crosses: 1, 12, 14, 15. The counts go in and come back; stuck is an answer and changes neither.
-    pub fn walk(self, from: u32, goal: u32, tally: Tally, met: &mut [u16]) -> FrameWalk
-        ensures { λ r. ⌜ Walk-with-arrival (opened-bytes (self .entry)) from goal tally r (now (met .entry)) (now (met .exit)) ⌝ }
+    // A walk by caller, with the first column that it crosses: 1, 12, 18, 14, 15. The counts go in and come back; only the caller's are raised, and
+    // stuck is an answer that changes none.
+    pub fn walk(
+        self,
+        from: u32,
+        goal: u32,
+        caller: u32,
+        traffic: Traffic,
+        met: &mut [u16],
+    ) -> CallerWalk
+        ensures { λ r. ⌜ Walk-with-arrival (opened-bytes (self .entry)) from goal caller traffic r (now (met .entry)) (now (met .exit)) ⌝ }
     {
         walk_carried(
             self.bytes,
@@ -84,7 +92,8 @@ impl<'a> Opened<'a> {
             self.columns,
             from,
             goal,
-            tally,
+            caller,
+            traffic,
             met,
         )
     }

@@ -18,6 +18,8 @@ use Rattle.crossing.specs.declared.places.FirstColumn.{FirstColumn}
 use Rattle.crossing.specs.declared.places.Places.{Places}
 use Rattle.conference.specs.declared.Conference.{Conference}
 use Rattle.plan_changer.specs.declared.NewPlan.{NewPlan}
+use Rattle.traffic.specs.declared.Traffic.{Traffic}
+use Rattle.callers.specs.declared.CallerWalk.{CallerWalk}
 
 -- a struct of the number and of lent numbers, in the order of its fields
 abbrev pub answer-in : (number : ℕ) → List ℕ → Answer
@@ -44,6 +46,13 @@ frame-walk-in x ys =
       walked = record { number = x; arrived = getD ys 0 0; hops = getD ys 1 0; tally = counts (getD ys 2 0) (getD ys 3 0) };
       crossed = column-in 4 ys;
     }
+
+-- the record of three lent arrays: frames, hops and turns
+abbrev pub lent-traffic : (frames hops turns : List ℕ) → Traffic
+lent-traffic fs hs ts = record { frames = fs; hops = hs; turns = ts }
+
+abbrev pub caller-walk-in : (number : ℕ) → List ℕ → Traffic → CallerWalk
+caller-walk-in x ys t = record { number = x; arrived = getD ys 0 0; hops = getD ys 1 0; crossed = column-in 2 ys; traffic = t }
 
 abbrev pub conference-in : (number : ℕ) → List ℕ → Conference
 conference-in x ys = record { number = x; found = getD ys 0 0; card = getD ys 1 0 }

@@ -1,14 +1,17 @@
 // Answers taken apart for the tests: the number is returned, the other fields go into lent numbers, in their order.
 ghost use mathlib.Core.Path.{_≡_};
 ghost use lib.ListN.{length, replicate};
-ghost use Rattle.test_calls.specs.Answers.{answer-in, conference-in, frame-step-in, frame-walk-in, new-plan-in, places-in, sizes-in};
+ghost use Rattle.test_calls.specs.Answers.{answer-in, caller-walk-in, conference-in, frame-step-in, frame-walk-in, lent-traffic, new-plan-in, places-in, sizes-in};
+use callers::CallerWalk;
 use conference::Conference;
 use crossing::FrameStep;
 use crossing::FrameWalk;
 use crossing::places::Places;
 use plan_changer::NewPlan;
 use planner::Answer;
+use rack::limits::MOST_CALLERS;
 use reader::layout::Sizes;
+use traffic::Traffic;
 
 // Puts an answer's fields into just as many numbers.
 fn put_fields(fields: &[u32], answer: &mut [u32])
@@ -63,6 +66,47 @@ pub fn put_walk(f: FrameWalk, answer: &mut [u32]) -> u32
         &[w.arrived, w.hops, t.frames, t.hops, c.found, c.column],
         answer,
     );
+    w.number
+}
+
+// The record of three lent arrays: the frames, hops and turns of each caller.
+pub fn lent_traffic(
+    frames: &[u32; MOST_CALLERS],
+    hops: &[u32; MOST_CALLERS],
+    turns: &[u32; MOST_CALLERS],
+) -> Traffic
+    ensures { λ r. ⌜ r ≡ lent-traffic (now (frames .entry)) (now (hops .entry)) (now (turns .entry)) ⌝ }
+{
+    let f = *frames;
+    let h = *hops;
+    let t = *turns;
+    Traffic {
+        frames: f,
+        hops: h,
+        turns: t,
+    }
+}
+
+// How it ended, its hops, 1 for a column or 0 for none, and the column; the counts go into the three arrays.
+pub fn put_caller_walk(
+    w: CallerWalk,
+    frames: &mut [u32; MOST_CALLERS],
+    hops: &mut [u32; MOST_CALLERS],
+    turns: &mut [u32; MOST_CALLERS],
+    answer: &mut [u32],
+) -> u32
+    requires { ⌜ length (now answer) ≡ 4 ⌝ }
+    ensures { λ r. ⌜ caller-walk-in r (now (answer .exit)) (lent-traffic (now (frames .exit)) (now (hops .exit)) (now (turns .exit))) ≡ w ⌝ }
+{
+    let traffic = w.traffic;
+    let f = traffic.frames;
+    let h = traffic.hops;
+    let t = traffic.turns;
+    *frames = f;
+    *hops = h;
+    *turns = t;
+    let c = w.crossed;
+    put_fields(&[w.arrived, w.hops, c.found, c.column], answer);
     w.number
 }
 

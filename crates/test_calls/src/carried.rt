@@ -1,21 +1,23 @@
 // The calls on an opened plan, over its bytes and any three sizes.
 ghost use mathlib.Core.Path.{_≡_};
 ghost use Rattle.reader.specs.Reading.{Address-says, Read-says, address-refusal};
-ghost use Rattle.crossing.specs.Crossing.{Frame-step-says, Frame-walk-says};
+ghost use Rattle.crossing.specs.Crossing.{Frame-step-says};
 ghost use Rattle.conference.specs.Conference.{Conference-says};
+ghost use Rattle.callers.specs.Walking.{Caller-walk-says};
 ghost use Rattle.opened.specs.Opening.{carried-bytes};
-ghost use Rattle.test_calls.specs.Answers.{Answered, conference-in, counts, frame-step-in, frame-walk-in, sizes-in};
+ghost use Rattle.test_calls.specs.Answers.{Answered, caller-walk-in, conference-in, frame-step-in, lent-traffic, sizes-in};
+use crate::answers::lent_traffic;
+use crate::answers::put_caller_walk;
 use crate::answers::put_conference;
 use crate::answers::put_sizes;
 use crate::answers::put_step;
-use crate::answers::put_walk;
-use forwarder::walk::Tally;
 use opened::carried::address_carried;
 use opened::carried::address_refusal_carried;
 use opened::carried::conference_carried;
 use opened::carried::read_carried;
 use opened::carried::step_carried;
 use opened::carried::walk_carried;
+use rack::limits::MOST_CALLERS;
 
 // Reading: 1, 12, 13. The fields are the three sizes.
 #[no_mangle]
@@ -85,7 +87,7 @@ pub extern "C" fn test_step_carried(
     )
 }
 
-// A walk: 1, 12, 14, 15.
+// A walk by caller: 1, 12, 18, 14, 15.
 #[no_mangle]
 pub extern "C" fn test_walk_carried(
     bytes: &[u8],
@@ -94,22 +96,34 @@ pub extern "C" fn test_walk_carried(
     columns: u32,
     from: u32,
     goal: u32,
-    frames: u32,
-    hops: u32,
+    caller: u32,
+    frames: &mut [u32; MOST_CALLERS],
+    hops: &mut [u32; MOST_CALLERS],
+    turns: &mut [u32; MOST_CALLERS],
     met: &mut [u16],
     answer: &mut [u32],
 ) -> u32
-    ensures { λ r. ⌜ Answered 6 r (now (answer .entry)) (now (answer .exit)) (now (met .exit) ≡ now (met .entry)) (Frame-walk-says (carried-bytes (now (bytes .entry)) cards links columns) from goal (counts frames hops) (frame-walk-in r (now (answer .exit))) (now (met .entry)) (now (met .exit))) ⌝ }
+    ensures { λ r. ⌜ Answered 4 r (now (answer .entry)) (now (answer .exit)) ((now (met .exit) ≡ now (met .entry)) × (lent-traffic (now (frames .exit)) (now (hops .exit)) (now (turns .exit)) ≡ lent-traffic (now (frames .entry)) (now (hops .entry)) (now (turns .entry)))) (Caller-walk-says (carried-bytes (now (bytes .entry)) cards links columns) from goal caller (lent-traffic (now (frames .entry)) (now (hops .entry)) (now (turns .entry))) (caller-walk-in r (now (answer .exit)) (lent-traffic (now (frames .exit)) (now (hops .exit)) (now (turns .exit)))) (now (met .entry)) (now (met .exit))) ⌝ }
 {
-    if answer.len() != 6 {
+    if answer.len() != 4 {
         return 1;
     }
-    let tally = Tally {
-        frames: frames,
-        hops: hops,
-    };
-    put_walk(
-        walk_carried(bytes, cards, links, columns, from, goal, tally, met),
+    let traffic = lent_traffic(frames, hops, turns);
+    put_caller_walk(
+        walk_carried(
+            bytes,
+            cards,
+            links,
+            columns,
+            from,
+            goal,
+            caller,
+            traffic,
+            met,
+        ),
+        frames,
+        hops,
+        turns,
         answer,
     )
 }

@@ -30,6 +30,7 @@ use rack::ones::ones_table;
 use reader::read::card_address;
 
 mod answers;
+pub mod by_caller;
 pub mod carried;
 pub mod opening;
 

@@ -11,7 +11,7 @@ use denote.Ref.{RefT, now}
 use Rattle.rack.specs.Limits.{most-callers, most-traffic}
 use Rattle.rack.specs.Buffers.{number-at, Slice-is}
 
--- A FRAME: "its first two bytes are its destination, low byte first, its third its caller"; what follows is its own
+-- A FRAME: "A frame's first two bytes are its destination, low byte first, its third its caller"; what follows is its own
 abbrev pub least-frame : ℕ
 least-frame = 3
 

@@ -1,4 +1,4 @@
--- A walk, on the bytes that a call sees. Assumes nothing.
+-- A walk by caller, on the bytes that a call sees. Assumes nothing.
 use borrow.Author.Needs.{needs}
 use Rattle.opened.proofs.carried.walk_carried.Statement.{statement}
 use Rattle.opened.proofs.carried.walk_carried.Tie as tie
@@ -6,17 +6,17 @@ use Rattle.opened.proofs.carried.walk_carried.Tie as tie
 carried-bytes-requires : tie.Need-carried-bytes-requires
 carried-bytes-requires c κs = search needs
 
-walk-frame-requires : tie.Need-walk-frame-requires
-walk-frame-requires c κs = search needs
+walk-by-caller-requires : tie.Need-walk-by-caller-requires
+walk-by-caller-requires c κs = search needs
 
 same-length : tie.Need-same-length
 same-length c = search needs
 
 returns : tie.Need-returns
 returns c =
-    let e = rw (c .before .before .before .before .carried-bytes .ensures .bytes) at (c .before .before .walk-frame .ensures) in
+    let e = rw (c .before .before .before .before .carried-bytes .ensures .bytes) at (c .before .before .walk-by-caller .ensures) in
     record { says = e .0; arrives = e .1 .0; full = e .1 .1 }
 
 pub walk-carried-spec : {M : Type 1} → statement M
 walk-carried-spec =
-    tie.close (tie.spec carried-bytes-requires walk-frame-requires same-length returns)
+    tie.close (tie.spec carried-bytes-requires walk-by-caller-requires same-length returns)
