@@ -21,6 +21,9 @@ use Rattle.forwarder.specs.Forwarding.{leads-nearer, step, walk-from, walk}
 use Rattle.forwarder.specs.Calls.{step-refusal, walk-hops, takes, walk-refusal}
 use Rattle.crossing.specs.Differing.{lowest-differing, plan-differing, column-number}
 use Rattle.crossing.specs.Crossing.{step-column, walk-column}
+use Rattle.turns.specs.Turns.{frame-goal, frame-caller, first-goes, next-caller, choice-refusal, turns-after}
+use Rattle.traffic.specs.Traffic.{caller-refusal, tally-of, with-tally, raised}
+use Rattle.callers.specs.Walking.{caller-walk-refusal, lent-walk-refusal}
 use Rattle.conference.specs.Conference.{between, median, conference, three-refusal, conference-refusal}
 use Rattle.pendant.specs.Pendant.{with-card, without-card, last-hangs}
 use Rattle.plan_changer.specs.Changing.{add-refusal, off-refusal}
@@ -28,9 +31,9 @@ use Rattle.last_card.specs.Calls.{add-card-refusal, take-off-refusal}
 use Rattle.text.specs.Decimals.{digits, decimal}
 use Rattle.listing_text.specs.Listing.{cards-word, links-word, columns-word, card-word, refused-word, at-link, at-card, space, dash, line-end}
 use Rattle.listing_text.specs.Listing.{number-line, address-text, card-line, size-lines, rack-lines, rack-text, names-link, place-text, refused-text, listing}
-use Rattle.promises.specs.Claims.{hex-digit, hex-bytes, hex, Claim, ends-so, claim-holds, Case, case, rack, file-of, plan-of, case-holds, failing}
+use Rattle.promises.specs.Claims.{hex-digit, hex-bytes, hex, Claim, ends-so, counts-of, same-traffic, turns-of, chooses, claim-holds, Case, case, rack, file-of, plan-of, case-holds, failing}
 use Rattle.promises.specs.Cases.{ring-of-four, ring-of-six, ring-plan, star-of-nine-plan, star-of-ten-plan, required-cases, size-cases, link-cases, rack-cases, plan-cases}
-use Rattle.promises.specs.Cases.{call-cases, crossing-cases, conference-cases, last-card-cases, cases}
+use Rattle.promises.specs.Cases.{call-cases, crossing-cases, caller-cases, turn-cases, conference-cases, last-card-cases, cases}
 
 -- A CLAIM THAT FAILS has no proof, and the checker's message shows it, behind the name of its row. Both types are pairs: to check a
 -- pair the checker has to compute the list, and then says what it found in it.
@@ -42,8 +45,9 @@ None ((s, c) ∷ rest) = Fails s c × Unit {0}
 
 -- THE TEST
 none-fails : None (failing cases)
-unfolding cases required-cases size-cases link-cases rack-cases plan-cases call-cases crossing-cases conference-cases last-card-cases
-    ring-of-four ring-of-six ring-plan star-of-nine-plan star-of-ten-plan rack file-of plan-of hex hex-bytes hex-digit ends-so claim-holds failing
+unfolding cases required-cases size-cases link-cases rack-cases plan-cases call-cases crossing-cases caller-cases turn-cases conference-cases
+    last-card-cases ring-of-four ring-of-six ring-plan star-of-nine-plan star-of-ten-plan rack file-of plan-of hex hex-bytes hex-digit ends-so
+    counts-of same-traffic turns-of chooses claim-holds failing
     number-bit bits-value joins linked neighbours touches other-end has-path hops unreached connected
     nearer-first side column same-column add-column add-columns columns column-count address hamming embeds
     or-else lowest-fault link-fault links-refusal reach-refusal parity-refusal embedding-refusal rack-refusal wiring-refusal
@@ -51,6 +55,8 @@ unfolding cases required-cases size-cases link-cases rack-cases plan-cases call-
     plan-bytes
     layout-holds content-holds plan-refusal layout-refusal plan-bit plan-hamming leads-nearer step walk-from walk
     walk-hops step-refusal takes walk-refusal lowest-differing plan-differing column-number step-column walk-column
+    frame-goal frame-caller first-goes next-caller choice-refusal turns-after caller-refusal tally-of with-tally raised caller-walk-refusal
+    lent-walk-refusal
     between median conference three-refusal conference-refusal with-card without-card last-hangs add-refusal off-refusal add-card-refusal
     take-off-refusal digits decimal
     cards-word links-word columns-word card-word refused-word at-link at-card space dash line-end number-line address-text

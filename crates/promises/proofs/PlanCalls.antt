@@ -1,9 +1,16 @@
--- The promises of the calls on a plan besides reading and forwarding, each proved: columns crossed, conference cards, a card more and a card less,
--- opened plans. The first part of the list is Promises.antt. Assumes nothing.
+-- The promises of the calls on a plan besides reading and forwarding, each proved: columns crossed, walks by caller, turns, conference cards, a card
+-- more and a card less, opened plans. The first part of the list is Promises.antt. Assumes nothing.
 use Rattle.crossing.specs.Promises.{Lowest-differing, Step-crosses, Walk-crosses, Link-crosses, Plan-link-crosses}
 use Rattle.crossing.specs.Promises.{Places-found, Places-name-column, Answers-cross, Step-names-column, Walk-names-column}
 use Rattle.crossing.specs.Promises.{Step-column-local, Frame-step-local}
 use Rattle.crossing.proofs.Promises as crossing
+use Rattle.turns.specs.Promises.{Choice-refused, Choice-refused-keeps, Choice-counts-one, Turns-fair}
+use Rattle.turns.proofs.Promises as turns
+use Rattle.traffic.specs.Promises.{Caller-refused, Others-kept, Caller-counted, None-counted}
+use Rattle.traffic.proofs.Promises as traffic
+use Rattle.callers.specs.Promises.{Caller-walk-arrives, Caller-walk-full, Lent-walk-arrives, Lent-walk-full, Caller-walk-refused}
+use Rattle.callers.specs.Promises.{Arrival-counted, Others-unseen, Others-uncounted, Refused-uncounted, Caller-stuck-uncounted}
+use Rattle.callers.proofs.Promises as callers
 use Rattle.conference.specs.Promises.{Between-means, Conference-promise, Conference-refused, Conference-repeated, Conference-order}
 use Rattle.conference.proofs.Promises as conference
 use Rattle.pendant.specs.Promises.{Hops-added, Columns-added, Addresses-added, Added-accepted, Taken-off-accepted, Hangs-means, Taken-off-restores}
@@ -56,6 +63,68 @@ step-column-local = crossing.step-column-local
 
 pub frame-step-local : Frame-step-local
 frame-step-local = crossing.frame-step-local
+
+-- demand 3 by caller: a frame of callers 0 to 15 arrives by the fewest links and is counted to its caller, or a count of that caller is full, and
+-- all is as it was; by numbers, and of a lent frame
+pub caller-walk-arrives : Caller-walk-arrives
+caller-walk-arrives = callers.caller-walk-arrives
+
+pub caller-walk-full : Caller-walk-full
+caller-walk-full = callers.caller-walk-full
+
+pub lent-walk-arrives : Lent-walk-arrives
+lent-walk-arrives = callers.lent-walk-arrives
+
+pub lent-walk-full : Lent-walk-full
+lent-walk-full = callers.lent-walk-full
+
+-- with one frame more of its caller, and its hops
+pub arrival-counted : Arrival-counted
+arrival-counted = callers.arrival-counted
+
+-- 18 and 19, exactly
+pub caller-refused : Caller-refused
+caller-refused = traffic.caller-refused
+
+pub caller-walk-refused : Caller-walk-refused
+caller-walk-refused = callers.caller-walk-refused
+
+-- another caller's counts refuse no walk, and no walk changes them, nor any turns
+pub others-unseen : Others-unseen
+others-unseen = callers.others-unseen
+
+pub others-uncounted : Others-uncounted
+others-uncounted = callers.others-uncounted
+
+-- what a walk that arrived raises, and that any other raises nothing: refused, or stuck
+pub others-kept : Others-kept
+others-kept = traffic.others-kept
+
+pub caller-counted : Caller-counted
+caller-counted = traffic.caller-counted
+
+pub none-counted : None-counted
+none-counted = traffic.none-counted
+
+pub refused-uncounted : Refused-uncounted
+refused-uncounted = callers.refused-uncounted
+
+pub caller-stuck-uncounted : Caller-stuck-uncounted
+caller-stuck-uncounted = callers.caller-stuck-uncounted
+
+-- of two waiting frames: 19, 18 and 15, exactly; with a refusal nothing is handed back and no turn is counted
+pub choice-refused : Choice-refused
+choice-refused = turns.choice-refused
+
+pub choice-refused-keeps : Choice-refused-keeps
+choice-refused-keeps = turns.choice-refused-keeps
+
+-- else one turn, that of the caller whose frame is handed back; so no run of choices lets one caller get ahead by more than one
+pub choice-counts-one : Choice-counts-one
+choice-counts-one = turns.choice-counts-one
+
+pub turns-fair : Turns-fair
+turns-fair = turns.turns-fair
 
 -- hops that add up mean a shortest path through a card
 pub between-means : Between-means

@@ -14,7 +14,7 @@ use Rattle.text.specs.Promises.{Decimal-value, Decimal-first, Decimal-digits}
 use Rattle.text.proofs.Promises as text
 use Rattle.listing_text.specs.Promises.{Listing-fits}
 use Rattle.listing_text.proofs.Promises as listing
-use Rattle.jolvente.specs.Promises.{C-writing-finds, C-reading-measures, C-walk-arrives, C-walk-full}
+use Rattle.jolvente.specs.Promises.{C-writing-finds, C-reading-measures, C-walk-arrives, C-walk-full, C-caller-refused}
 use Rattle.jolvente.proofs.Promises as c-calls
 
 -- hops are the fewest links
@@ -158,6 +158,10 @@ c-walk-arrives = c-calls.c-walk-arrives
 
 pub c-walk-full : C-walk-full
 c-walk-full = c-calls.c-walk-full
+
+-- and 18, exactly, with all as it was
+pub c-caller-refused : C-caller-refused
+c-caller-refused = c-calls.c-caller-refused
 
 -- every listing fits its lent buffer
 pub listing-fits : Listing-fits

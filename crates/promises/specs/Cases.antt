@@ -7,6 +7,7 @@ use Rattle.planner.specs.PlanBytes.{plan-bytes}
 use Rattle.promises.specs.Claims.{hex, Case, rack, file-of, plan-of}
 use Rattle.promises.specs.Claims.{file-is, refused, addresses, lists, plan-size, plan-is, read-as, walks, stuck, walk-answers}
 use Rattle.promises.specs.Claims.{gets-stuck, differ-in, differ-nowhere, crosses, crosses-none, column-is}
+use Rattle.promises.specs.Claims.{counts-to, caller-answers, lent-answers, first-turn, second-turn, choice-answers}
 use Rattle.promises.specs.Claims.{confers, confers-nowhere, conference-answers}
 use Rattle.promises.specs.Claims.{adds, takes-off, adding-answers, taking-off-answers, adding-refused}
 
@@ -143,6 +144,45 @@ crossing-cases =
     ∷ rack "one card, no column" 1 [] (crosses-none 0 0 ∷ differ-nowhere 0 0 ∷ [])
     ∷ []
 
+-- walks by caller: the counts of that caller alone, and 12, 19, 18, 14, 15, the first that applies
+unfoldable pub caller-cases : List Case
+caller-cases =
+    plan-of "P9 as a walk of caller 3, and of callers 0 and 15" ring-plan
+    (counts-to 0 2 3 7 9 8 11 ∷ counts-to 0 2 0 4294967294 4294967293 4294967295 4294967295 ∷ counts-to 3 1 15 0 0 1 2 ∷ [])
+    ∷ plan-of "a card to itself: its hops may be full, its frames not" ring-plan
+    (counts-to 1 1 3 7 4294967295 8 4294967295 ∷ caller-answers 1 1 3 4294967295 0 15 ∷ [])
+    ∷ plan-of "no caller 16: 18 before 14 and 15" ring-plan
+    (caller-answers 0 2 16 0 0 18 ∷ caller-answers 0 4 16 0 0 18 ∷ caller-answers 0 2 4294967295 4294967295 0 18 ∷ caller-answers 0 4 15 0 0 14 ∷ [])
+    ∷ plan-of "that caller's counts are full: 15" ring-plan
+    (caller-answers 0 2 3 4294967295 0 15 ∷ caller-answers 0 2 3 0 4294967294 15 ∷ caller-answers 0 4 3 4294967295 0 14 ∷ [])
+    ∷ plan-of "P10: a stuck walk with all counts full" (set ring-plan 24 0)
+    (counts-to 0 2 3 4294967295 4294967295 4294967295 4294967295 ∷ counts-to 1 2 3 4294967295 4294967295 4294967295 4294967295 ∷ [])
+    ∷ plan-of "no layout: 12 before 19, 18 and 14" (take 25 ring-plan)
+    (caller-answers 0 4 16 0 0 12 ∷ lent-answers 0 [] 0 0 12 ∷ lent-answers 0 (hex "04 00 10") 0 0 12 ∷ [])
+    ∷ plan-of "a lent frame: 19 before 18, 18 before 14, 14 before 15" ring-plan
+    (lent-answers 9 [] 0 0 19 ∷ lent-answers 0 (hex "02 00") 0 0 19 ∷ lent-answers 0 (hex "04 00 10") 0 0 18 ∷ lent-answers 0 (hex "04 00 03") 4294967295 0 14
+    ∷ lent-answers 0 (hex "02 00 03") 4294967295 0 15 ∷ lent-answers 0 (hex "02 00 03") 0 0 0 ∷ lent-answers 0 (hex "02 00 0f ff") 0 0 0
+    ∷ lent-answers 0 (hex "00 02 03") 0 0 14 ∷ [])
+    ∷ []
+
+-- of two frames that wait: the one whose caller has had fewer turns, the first if level; 19, 18, 15, the first that applies
+unfoldable pub turn-cases : List Case
+turn-cases =
+    plan-of "level: the first, of either caller" []
+    (first-turn (hex "02 00 03") (hex "01 00 05") 7 7 8 7 ∷ first-turn (hex "01 00 05") (hex "02 00 03") 7 7 7 8
+    ∷ first-turn (hex "02 00 03") (hex "01 00 03") 7 0 8 0 ∷ [])
+    ∷ plan-of "fewer turns: the first, or the second" []
+    (first-turn (hex "02 00 03") (hex "01 00 05") 6 7 7 7 ∷ second-turn (hex "02 00 03") (hex "01 00 05") 8 7 8 8
+    ∷ second-turn (hex "02 00 03") (hex "01 00 05") 4294967295 4294967294 4294967295 4294967295 ∷ [])
+    ∷ plan-of "a short frame: 19 before 18 and 15, either frame" []
+    (choice-answers (hex "02 00") (hex "01 00 10") 0 0 19 ∷ choice-answers (hex "02 00 10") [] 0 0 19
+    ∷ choice-answers (hex "02 00 03") (hex "01 00") 4294967295 0 19 ∷ [])
+    ∷ plan-of "no caller 16: 18 before 15, either frame" []
+    (choice-answers (hex "02 00 10") (hex "01 00 05") 0 0 18 ∷ choice-answers (hex "02 00 03") (hex "01 00 ff") 4294967295 0 18 ∷ [])
+    ∷ plan-of "both callers' turns are full: 15" []
+    (choice-answers (hex "02 00 03") (hex "01 00 05") 4294967295 4294967295 15 ∷ choice-answers (hex "02 00 03") (hex "01 00 05") 4294967294 4294967295 0 ∷ [])
+    ∷ []
+
 -- three in conference: a card or none, and 12, 13, 14, the first that applies
 unfoldable pub conference-cases : List Case
 conference-cases =
@@ -185,4 +225,5 @@ last-card-cases =
 
 unfoldable pub cases : List Case
 cases =
-    required-cases ++ size-cases ++ link-cases ++ rack-cases ++ plan-cases ++ call-cases ++ crossing-cases ++ conference-cases ++ last-card-cases
+    required-cases ++ size-cases ++ link-cases ++ rack-cases ++ plan-cases ++ call-cases ++ crossing-cases
+    ++ caller-cases ++ turn-cases ++ conference-cases ++ last-card-cases

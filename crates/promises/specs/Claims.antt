@@ -1,12 +1,12 @@
 -- What a row of the table of cases says: a wiring file, a plan file, and claims of the two. Assumes nothing: these are definitions.
-use mathlib.Core.Bool.{Bool, _&&_, not, cond}
+use mathlib.Core.Bool.{Bool, true, false, _&&_, not, cond}
 use mathlib.Core.List.{List, [], _∷_, _++_, map}
 use Prim.Native.Nat.{ℕ, _+_, _*_, _-_}
 use Prim.Native.String.{String}
 use lib.Dec.{ltb, eqb}
-use lib.ListN.{length}
-use Rattle.rack.specs.Limits.{lent-plan}
-use Rattle.rack.specs.Lists.{all, filter, tabulate, same}
+use lib.ListN.{length, set, replicate}
+use Rattle.rack.specs.Limits.{most-callers, most-traffic, lent-plan}
+use Rattle.rack.specs.Lists.{all, filter, tabulate, differ, same}
 use Rattle.rack.specs.Wiring.{Link, wiring, link-at}
 use Rattle.rack.specs.WiringFile.{file-bytes, file-wiring, file-refusal}
 use Rattle.rack.specs.Columns.{column-count, address}
@@ -17,6 +17,10 @@ use Rattle.forwarder.specs.Forwarding.{step, Walk, walk}
 use Rattle.forwarder.specs.Calls.{lent-met, walk-hops, walk-refusal}
 use Rattle.crossing.specs.Differing.{plan-differing, column-number}
 use Rattle.crossing.specs.Crossing.{step-column, walk-column}
+use Rattle.turns.specs.Turns.{frame-caller, first-goes, choice-refusal, turns-after}
+use Rattle.traffic.specs.Traffic.{raised}
+use Rattle.traffic.specs.declared.Traffic.{Traffic}
+use Rattle.callers.specs.Walking.{caller-walk-refusal, lent-walk-refusal}
 use Rattle.conference.specs.Conference.{conference, conference-refusal}
 use Rattle.pendant.specs.Pendant.{with-card, without-card}
 use Rattle.plan_changer.specs.Changing.{add-refusal}
@@ -66,6 +70,16 @@ pub data Claim : Type 0 where
   crosses-none : (a b : ℕ) → Claim
   -- of the wiring inside the plan, the number of a link's column
   column-is : (link column : ℕ) → Claim
+  -- with these counts of a caller before it, and all others full, its walk from a to b arrives with these after it, and no other count is
+  -- changed; it gives this number; the walk of a lent frame does
+  counts-to : (a b caller : ℕ) → (frames hops frames-now hops-now : ℕ) → Claim
+  caller-answers : (a b caller : ℕ) → (frames hops : ℕ) → (number : ℕ) → Claim
+  lent-answers : (a : ℕ) → (frame : List ℕ) → (frames hops : ℕ) → (number : ℕ) → Claim
+  -- of two frames, with so many turns of callers 3 and 5 and none of the others, the first goes, or the second, with these after it; they are
+  -- answered with this number
+  first-turn : (first second : List ℕ) → (turns-3 turns-5 now-3 now-5 : ℕ) → Claim
+  second-turn : (first second : List ℕ) → (turns-3 turns-5 now-3 now-5 : ℕ) → Claim
+  choice-answers : (first second : List ℕ) → (turns-3 turns-5 : ℕ) → (number : ℕ) → Claim
   -- on the plan, three cards confer at this card; at none; they are answered with this number
   confers : (a b c : ℕ) → (card : ℕ) → Claim
   confers-nowhere : (a b c : ℕ) → Claim
@@ -82,6 +96,23 @@ pub data Claim : Type 0 where
 -- a walk ended so, after so many hops, with these cards met
 unfoldable pub ends-so : (arrived hops : ℕ) → (met : List ℕ) → Walk → Bool
 ends-so o h cs v = eqb (v .arrived) o && eqb (walk-hops v) h && same eqb (v .met) cs
+
+-- the counts of one caller, and all others full
+unfoldable pub counts-of : (caller frames hops : ℕ) → Traffic
+counts-of u f h =
+    let full = replicate most-callers most-traffic in
+    record { frames = set full u f; hops = set full u h; turns = full }
+
+unfoldable pub same-traffic : (s t : Traffic) → Bool
+same-traffic s t = same eqb (s .frames) (t .frames) && same eqb (s .hops) (t .hops) && same eqb (s .turns) (t .turns)
+
+-- the turns of callers 3 and 5, and none of the others
+unfoldable pub turns-of : (turns-3 turns-5 : ℕ) → List ℕ
+turns-of x y = set (set (replicate most-callers 0) 3 x) 5 y
+
+-- a choice is not refused, goes to the first or not, and leaves these turns
+unfoldable pub chooses : (first : Bool) → (f g ts ts-now : List ℕ) → Bool
+chooses b f g ts us = eqb (choice-refusal f g ts) 0 && not (differ b (first-goes f g ts)) && same eqb (turns-after f g ts) us
 
 unfoldable pub claim-holds : (file plan : List ℕ) → Claim → Bool
 claim-holds bs ps (file-is xs) = same eqb bs xs
@@ -102,6 +133,15 @@ claim-holds bs ps (differ-nowhere a b) = eqb (plan-hamming ps a b) 0 && eqb (pla
 claim-holds bs ps (crosses a b j) = ltb j (plan-columns ps) && eqb (step-column ps a b) j && eqb (walk-column ps a b) j
 claim-holds bs ps (crosses-none a b) = eqb (step-column ps a b) (plan-columns ps) && eqb (walk-column ps a b) (plan-columns ps)
 claim-holds bs ps (column-is i j) = ltb j (plan-columns ps) && eqb (column-number (plan-wiring ps) (link-at (plan-wiring ps) i)) j
+claim-holds bs ps (counts-to a b u f h f-now h-now) =
+    let t = counts-of u f h in
+    eqb (caller-walk-refusal ps a b u t lent-met) 0
+    && same-traffic (raised t u (walk ps a b .arrived) (walk-hops (walk ps a b))) (counts-of u f-now h-now)
+claim-holds bs ps (caller-answers a b u f h n) = eqb (caller-walk-refusal ps a b u (counts-of u f h) lent-met) n
+claim-holds bs ps (lent-answers a frame f h n) = eqb (lent-walk-refusal ps a frame (counts-of (frame-caller frame) f h) lent-met) n
+claim-holds bs ps (first-turn f g x y x-now y-now) = chooses true f g (turns-of x y) (turns-of x-now y-now)
+claim-holds bs ps (second-turn f g x y x-now y-now) = chooses false f g (turns-of x y) (turns-of x-now y-now)
+claim-holds bs ps (choice-answers f g x y n) = eqb (choice-refusal f g (turns-of x y)) n
 claim-holds bs ps (confers a b c x) =
     eqb (conference-refusal ps a b c) 0 && ltb x (plan-cards ps) && eqb (conference (plan-wiring ps) a b c) x
 claim-holds bs ps (confers-nowhere a b c) = eqb (conference-refusal ps a b c) 0 && eqb (conference (plan-wiring ps) a b c) (plan-cards ps)
