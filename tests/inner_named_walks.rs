@@ -149,12 +149,8 @@ fn full_others(both: &mut Both, on: On) {
 }
 
 /// Some of the faults at once: the first of them in the order of tests is answered. Wrong are the cards of 14 and the lengths of 1.
-fn faulty(
-    both: &mut Both,
-    on: On,
-    faults: u32,
-    (wrong_cards, wrong_lengths): ([usize; 2], Lengths),
-) {
+fn faulty(both: &mut Both, on: On, faults: u32, wrong: ([usize; 2], Lengths)) {
+    let (wrong_cards, wrong_lengths) = wrong;
     let has = |number: u32| {
         let at = FAULTS.iter().position(|&fault| fault == number);
         at.is_some_and(|at| faults >> at & 1 == 1)
@@ -269,12 +265,9 @@ fn make(both: &mut Both, on: On, walk: Walk, lengths: Lengths) -> (u32, Vec<u32>
         ..Call::new(name)
     };
     let answer = both.call(call, plan, lengths);
-    let [fields, record] = [&answer.lent.fields, &answer.lent.traffic];
-    (
-        answer.number,
-        fields.items().to_vec(),
-        record.items().to_vec(),
-    )
+    let lents = [&answer.lent.fields, &answer.lent.traffic];
+    let [fields, record] = lents.map(|lent| lent.items().to_vec());
+    (answer.number, fields, record)
 }
 
 /// It arrives with so many hops, and raises its caller's two counts and no other.

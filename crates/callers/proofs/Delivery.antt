@@ -12,7 +12,7 @@ use Rattle.turns.specs.Turns.{frame-goal, frame-caller}
 use Rattle.traffic.specs.Traffic.{tally-of, raised}
 use Rattle.traffic.specs.Promises.{None-counted}
 use Rattle.traffic.specs.declared.Traffic.{Traffic}
-use Rattle.traffic.proofs.CallerRefusal.{a-caller}
+use Rattle.traffic.proofs.CallerRefusal.{caller-passes}
 use Rattle.traffic.proofs.Promises.{none-counted}
 use Rattle.callers.specs.Walking.{caller-walk-refusal, lent-walk-refusal, Walk-is, Caller-walk-says, Lent-walk-says}
 use Rattle.callers.specs.Walking.{Caller-frame, Caller-can-take, Caller-arrived, Caller-full, Lent-frame, Lent-can-take, Lent-arrived}
@@ -53,7 +53,7 @@ frame-own : (ps : List ℕ) (a b u : ℕ) (t : Traffic) (old : List ℕ) → Cal
     → caller-walk-refusal ps a b u t (length old) ≡ walk-refusal ps a b (tally-of t u) (length old)
 unfolding layout-refusal
 frame-own ps a b u t old f =
-    own-number ps a b u t (length old) (f .frame .room) (a-caller ps u (rw (read-measured ps (f .frame .read) .layout) refl) (f .caller))
+    own-number ps a b u t (length old) (f .frame .room) (caller-passes ps u (rw (read-measured ps (f .frame .read) .layout) refl) (f .caller))
 
 -- BY NUMBERS
 module _ (ps : List ℕ) (a b u : ℕ) (t : Traffic) (r : CallerWalk) (old new : List ℕ) (s : Caller-walk-says ps a b u t r old new) where

@@ -12,7 +12,7 @@ use Rattle.forwarder.proofs.Promises.{stuck-uncounted}
 use Rattle.turns.specs.Turns.{frame-goal, frame-caller}
 use Rattle.traffic.specs.Traffic.{tally-of}
 use Rattle.traffic.specs.Promises.{Caller-refused, Others-kept, Caller-counted, None-counted}
-use Rattle.traffic.proofs.CallerRefusal.{layout-clear, a-caller}
+use Rattle.traffic.proofs.CallerRefusal.{layout-clear, caller-passes}
 use Rattle.traffic.proofs.Promises.{caller-refused, others-kept, caller-counted, none-counted}
 use Rattle.callers.specs.Walking.{caller-walk-refusal}
 use Rattle.callers.specs.Promises.{Caller-walk-arrives, Caller-walk-full, Lent-walk-arrives, Lent-walk-full, Caller-walk-refused}
@@ -97,7 +97,7 @@ refused-uncounted x ps a b u t r old new s n =
 pub caller-stuck-uncounted : Caller-stuck-uncounted
 unfolding Caller-stuck-uncounted Stuck-uncounted None-counted layout-refusal
 caller-stuck-uncounted ps a b u t r old new s l from goal caller room stuck =
-    let own = own-number ps a b u t (length old) room (a-caller ps u (rw l refl) (omega arith)) in
+    let own = own-number ps a b u t (length old) room (caller-passes ps u (rw l refl) (omega arith)) in
     let x = caller-walk-refusal ps a b u t (length old) in
     let k = stuck-uncounted ps a b (tally-of t u) (as-walked ps a b u t x r old new s) old new (walk-says ps a b u t x r old new s own) l from goal
     room stuck in

@@ -50,9 +50,10 @@ Lent-walk-says ps a f t r old new = Walk-is (lent-walk-refusal ps a f t (length 
 abbrev pub not-walked : (number : ℕ) → Traffic → CallerWalk
 not-walked x t = record { number = x; arrived = 0; hops = 0; crossed = no-column; traffic = t }
 
--- DEMAND 3 BY CALLER (docs/REQUIREMENTS.md), of a frame whose caller is one of the 16
+-- DEMAND 3 BY CALLER (docs/REQUIREMENTS.md)
 pub record Caller-frame (ps : List ℕ) (a b u : ℕ) (old : List ℕ) : Type 0 where
   pub frame : Frame ps a b old
+  -- the caller is one of the 16
   pub caller : u < most-callers
 
 -- the counts of that caller can take its hops

@@ -22,7 +22,7 @@ use Rattle.forwarder.specs.declared.walk.Tally.{Tally}
 use Rattle.forwarder.specs.declared.walk.Walked.{Walked}
 use Rattle.forwarder.proofs.Arrival.{walk-arrived, walk-full}
 use Rattle.traffic.specs.Traffic.{caller-refusal}
-use Rattle.traffic.proofs.CallerRefusal.{a-caller}
+use Rattle.traffic.proofs.CallerRefusal.{caller-passes}
 use Rattle.jolvente.specs.Records.{lent-record, lent-met-bytes, record-bytes, cards-in, counts-in, walked-in}
 use Rattle.jolvente.specs.CCalls.{c-walk-refusal, met-bytes, walk-record, C-walk-says, C-frame, C-full}
 use Rattle.jolvente.proofs.RecordBytes.{Reads, record-reads, cards-read}
@@ -68,7 +68,7 @@ module _ (ps : List ℕ) (a b u r : ℕ) (met met-now rec rec-now : List ℕ) (s
 
   called : caller-refusal ps u ≡ 0
   unfolding layout-refusal
-  called = a-caller ps u (rw (read-measured ps (f .read) .layout) refl) (f .caller)
+  called = caller-passes ps u (rw (read-measured ps (f .read) .layout) refl) (f .caller)
 
   answer-says : Walk-says ps a b t answer old left
   unfolding c-walk-refusal

@@ -30,9 +30,9 @@ module _ (ps : List ℕ) (u : ℕ) where
   unfolding caller-refusal
   no-caller e h = rw (eq-eqb (layout-refusal ps) 0 e, le-leb most-callers u h) refl
 
-  pub a-caller : layout-refusal ps ≡ 0 → u < most-callers → caller-refusal ps u ≡ 0
+  pub caller-passes : layout-refusal ps ≡ 0 → u < most-callers → caller-refusal ps u ≡ 0
   unfolding caller-refusal
-  a-caller e h = rw (eq-eqb (layout-refusal ps) 0 e, lt-leb most-callers u h) refl
+  caller-passes e h = rw (eq-eqb (layout-refusal ps) 0 e, lt-leb most-callers u h) refl
 
   pub answered-layout : caller-refusal ps u ≡ 0 → layout-refusal ps ≡ 0
   answered-layout e = by-eq (layout-refusal ps) 0 (λ l. l) (λ n. absurd (n (sym (no-plan n) ∙ e)))

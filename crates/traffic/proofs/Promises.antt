@@ -11,7 +11,7 @@ use Rattle.reader.specs.Plan.{layout-holds}
 use Rattle.reader.specs.Reading.{layout-refusal}
 use Rattle.traffic.specs.Traffic.{caller-refusal, tally-of, with-tally, raised}
 use Rattle.traffic.specs.Promises.{Caller-refused, Others-kept, Caller-counted, None-counted}
-use Rattle.traffic.proofs.CallerRefusal.{layout-clear, no-plan, no-caller, a-caller, layout-refusal-within}
+use Rattle.traffic.proofs.CallerRefusal.{layout-clear, no-plan, no-caller, caller-passes, layout-refusal-within}
 
 pub caller-refused : Caller-refused
 unfolding Caller-refused layout-refusal
@@ -20,7 +20,7 @@ caller-refused ps u = (over, λ (l, h). no-caller ps u (rw l refl) (omega arith)
     over : caller-refusal ps u ≡ 18 → (layout-holds ps ≡ true) × (15 < u)
     over e =
         by-eq (layout-refusal ps) 0
-        (λ z. (layout-clear ps z, by-lt 15 u (λ h. h) (λ h. absurd (omega (arith, e, a-caller ps u z (omega arith))))))
+        (λ z. (layout-clear ps z, by-lt 15 u (λ h. h) (λ h. absurd (omega (arith, e, caller-passes ps u z (omega arith))))))
         (λ n. absurd (omega (arith, e, no-plan ps u n, layout-refusal-within ps)))
 
 pub others-kept : Others-kept

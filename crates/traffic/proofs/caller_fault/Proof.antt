@@ -2,7 +2,7 @@
 use mathlib.Core.Path.{sym, _∙_}
 use native.Mathlib.Omega.{arith}
 use borrow.Author.Needs.{needs}
-use Rattle.traffic.proofs.CallerRefusal.{no-plan, no-caller, a-caller}
+use Rattle.traffic.proofs.CallerRefusal.{no-plan, no-caller, caller-passes}
 use Rattle.traffic.proofs.caller_fault.Statement.{statement}
 use Rattle.traffic.proofs.caller_fault.Tie as tie
 
@@ -22,7 +22,7 @@ returns-2 c =
 returns-3 : tie.Need-returns-3
 returns-3 c =
     let says = c .before .before .before .plan-layout .ensures in
-    sym (a-caller _ _ (omega (arith, says .number)) (omega arith))
+    sym (caller-passes _ _ (omega (arith, says .number)) (omega arith))
 
 pub caller-fault-spec : {M : Type 1} → statement M
 caller-fault-spec = tie.close (tie.spec plan-layout-requires returns returns-2 returns-3)
