@@ -39,47 +39,32 @@ pub fn rows(record: *mut u32) -> [*mut u32; 3] {
 }
 
 /// The number; 1 for arrived or 0 for stuck, the hops, 1 for a column or 0 for none, and the column. The counts of all callers begin at 0.
-pub fn walk_by_caller(plan: &[u8], from: u32, goal: u32, caller: u32) -> (u32, [u32; 4]) {
+fn answered(walk: impl FnOnce([*mut u32; 3], &mut [u16], &mut [u32]) -> u32) -> (u32, [u32; 4]) {
     let (mut record, mut met, mut answer) = ([0; COUNTS], [0; 256], [0; 4]);
-    let [frames, hops, turns] = rows(record.as_mut_ptr());
-    let number = unsafe {
-        test_walk_by_caller(
-            plan.as_ptr(),
-            plan.len(),
-            from,
-            goal,
-            caller,
-            frames,
-            hops,
-            turns,
-            met.as_mut_ptr(),
-            met.len(),
-            answer.as_mut_ptr(),
-            answer.len(),
-        )
-    };
+    let number = walk(rows(record.as_mut_ptr()), &mut met, &mut answer);
     (number, answer)
+}
+
+pub fn walk_by_caller(plan: &[u8], from: u32, goal: u32, caller: u32) -> (u32, [u32; 4]) {
+    let (plan, long) = (plan.as_ptr(), plan.len());
+    answered(|[fs, hs, ts], met, answer| unsafe {
+        let (met, room) = (met.as_mut_ptr(), met.len());
+        let (fields, count) = (answer.as_mut_ptr(), answer.len());
+        test_walk_by_caller(
+            plan, long, from, goal, caller, fs, hs, ts, met, room, fields, count,
+        )
+    })
 }
 
 /// The same of a frame, which has its destination and its caller in its first three bytes.
 pub fn walk_lent(plan: &[u8], from: u32, frame: &[u8]) -> (u32, [u32; 4]) {
-    let (mut record, mut met, mut answer) = ([0; COUNTS], [0; 256], [0; 4]);
-    let [frames, hops, turns] = rows(record.as_mut_ptr());
-    let number = unsafe {
+    let (plan, long) = (plan.as_ptr(), plan.len());
+    let (frame, size) = (frame.as_ptr(), frame.len());
+    answered(|[fs, hs, ts], met, answer| unsafe {
+        let (met, room) = (met.as_mut_ptr(), met.len());
+        let (fields, count) = (answer.as_mut_ptr(), answer.len());
         test_walk_lent(
-            plan.as_ptr(),
-            plan.len(),
-            from,
-            frame.as_ptr(),
-            frame.len(),
-            frames,
-            hops,
-            turns,
-            met.as_mut_ptr(),
-            met.len(),
-            answer.as_mut_ptr(),
-            answer.len(),
+            plan, long, from, frame, size, fs, hs, ts, met, room, fields, count,
         )
-    };
-    (number, answer)
+    })
 }

@@ -8,11 +8,13 @@ use lib.ListN.{length}
 use borrow.Author.Tests.{eq-eqb, ne-eqb, lt-ltb, le-ltb}
 use Rattle.rack.proofs.Logic.{by-eq, by-lt}
 use Rattle.reader.specs.Reading.{layout-refusal}
+use Rattle.reader.proofs.Reading.{layout-refusal-within}
 use Rattle.forwarder.specs.Calls.{lent-met, walk-refusal}
+use Rattle.forwarder.proofs.Answers.{walk-refusal-within}
 use Rattle.turns.specs.Turns.{least-frame, frame-goal, frame-caller}
 use Rattle.traffic.specs.Traffic.{caller-refusal, tally-of}
 use Rattle.traffic.specs.declared.Traffic.{Traffic}
-use Rattle.traffic.proofs.CallerRefusal.{layout-refusal-within, walk-refusal-within, caller-refusal-within}
+use Rattle.traffic.proofs.CallerRefusal.{caller-refusal-within}
 use Rattle.callers.specs.Walking.{caller-walk-refusal, lent-walk-refusal}
 
 -- BY NUMBERS: 1, then 12 and 18, then the walk's own

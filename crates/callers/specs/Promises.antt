@@ -71,8 +71,12 @@ Caller-walk-refused =
 -- "15 now looks at the counts to be raised": counts of another caller, and all turns, refuse no walk
 unfoldable pub Others-unseen : Type 0
 Others-unseen =
-    (ps : List ℕ) (a b u : ℕ) (s t : Traffic) (room : ℕ) → getD (s .frames) u 0 ≡ getD (t .frames) u 0 → getD (s .hops) u 0 ≡ getD (t .hops) u 0 →
-    caller-walk-refusal ps a b u s room ≡ caller-walk-refusal ps a b u t room
+    ((ps : List ℕ) (a b u : ℕ) (s t : Traffic) (room : ℕ) →
+    getD (s .frames) u 0 ≡ getD (t .frames) u 0 → getD (s .hops) u 0 ≡ getD (t .hops) u 0 →
+    caller-walk-refusal ps a b u s room ≡ caller-walk-refusal ps a b u t room)
+    × ((ps : List ℕ) (a : ℕ) (f : List ℕ) (s t : Traffic) (room : ℕ) → let u = frame-caller f in
+    getD (s .frames) u 0 ≡ getD (t .frames) u 0 → getD (s .hops) u 0 ≡ getD (t .hops) u 0 →
+    lent-walk-refusal ps a f s room ≡ lent-walk-refusal ps a f t room)
 
 -- "No caller's walks change another's counts", nor any turns; whatever the walk's number is
 unfoldable pub Others-uncounted : Type 0
@@ -93,3 +97,10 @@ Caller-stuck-uncounted =
     (ps : List ℕ) (a b u : ℕ) (t : Traffic) (r : CallerWalk) (old new : List ℕ) → Caller-walk-says ps a b u t r old new →
     layout-holds ps ≡ true → a < plan-cards ps → b < plan-cards ps → u ≤ 15 → length old ≡ lent-met → walk ps a b .arrived ≡ 0 →
     (r .number ≡ 0) × (r .arrived ≡ 0) × (r .hops ≡ walk-hops (walk ps a b)) × (r .traffic ≡ t)
+
+unfoldable pub Lent-stuck-uncounted : Type 0
+Lent-stuck-uncounted =
+    (ps : List ℕ) (a : ℕ) (f : List ℕ) (t : Traffic) (r : CallerWalk) (old new : List ℕ) → Lent-walk-says ps a f t r old new →
+    layout-holds ps ≡ true → a < plan-cards ps → 3 ≤ length f → frame-goal f < plan-cards ps → frame-caller f ≤ 15 → length old ≡ lent-met →
+    walk ps a (frame-goal f) .arrived ≡ 0 →
+    (r .number ≡ 0) × (r .arrived ≡ 0) × (r .hops ≡ walk-hops (walk ps a (frame-goal f))) × (r .traffic ≡ t)

@@ -1,6 +1,6 @@
 -- The answer of a walk from its parts: refusals, the counts, the cards written. Assumes nothing.
 use mathlib.Core.Path.{_≡_, refl, sym, ap, ap₂, _∙_}
-use mathlib.Core.Bool.{Bool, true, false, not, cond, and-false, or-true}
+use mathlib.Core.Bool.{Bool, true, false, _||_, not, cond, and-false, or-true}
 use mathlib.Core.Logic.{_≢_}
 use mathlib.Core.List.{List}
 use Prim.Native.Nat.{ℕ, suc, _+_, _≤_, _<_}
@@ -9,8 +9,12 @@ use lib.Dec.{leb, eqb}
 use lib.ListN.{length}
 use borrow.Author.Tests.{eq-eqb, ne-eqb, le-leb, lt-leb}
 use Rattle.rack.specs.Limits.{most-traffic}
+use Rattle.rack.specs.PlanFile.{plan-cards}
+use Rattle.rack.proofs.Refusals.{cond-within}
+use Rattle.reader.specs.Reading.{layout-refusal}
+use Rattle.reader.proofs.Reading.{layout-refusal-within}
 use Rattle.forwarder.specs.Forwarding.{walk}
-use Rattle.forwarder.specs.Calls.{step-refusal, takes, takes-walk, walk-refusal, Walk-says}
+use Rattle.forwarder.specs.Calls.{step-refusal, lent-met, takes, takes-walk, walk-refusal, Walk-says}
 use Rattle.forwarder.specs.Parts.{Route-is, Unwalked, Counted}
 use Rattle.forwarder.specs.declared.walk.Tally.{Tally}
 use Rattle.forwarder.specs.declared.walk.Walked.{Walked}
@@ -119,3 +123,13 @@ module _ (ps : List ℕ) (a b : ℕ) (t : Tally) (old : List ℕ) where
 
     pub says-answered : (new : List ℕ) → r .number ≡ 0 → new ≡ v .met → Walk-says ps a b t r old new
     says-answered new n f = says-walked new (rw (eq-eqb (r .number) 0 n) f)
+
+-- NO NUMBER of a walk is over 15
+pub walk-refusal-within : (ps : List ℕ) (a b : ℕ) (t : Tally) (room : ℕ) → walk-refusal ps a b t room ≤ 15
+unfolding walk-refusal step-refusal
+walk-refusal-within ps a b t room =
+    let layout : layout-refusal ps ≤ 15 = omega (arith, layout-refusal-within ps) in
+    let cards = cond-within (leb (plan-cards ps) a || leb (plan-cards ps) b) 14 0 15 (omega arith) (omega arith) in
+    let frame = cond-within (eqb (layout-refusal ps) 0) _ _ 15 cards layout in
+    let counts = cond-within (not (takes-walk t (walk ps a b))) 15 0 15 (omega arith) (omega arith) in
+    cond-within (not (eqb room lent-met)) 1 _ 15 (omega arith) (cond-within (not (eqb (step-refusal ps a b) 0)) _ _ 15 frame counts)

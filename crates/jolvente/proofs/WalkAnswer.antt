@@ -14,8 +14,8 @@ use Rattle.forwarder.specs.Forwarding.{walk}
 use Rattle.forwarder.specs.Calls.{lent-met, walk-hops, walk-refusal, Walk-says}
 use Rattle.forwarder.specs.declared.walk.Tally.{Tally}
 use Rattle.forwarder.specs.declared.walk.Walked.{Walked}
+use Rattle.forwarder.proofs.Answers.{walk-refusal-within}
 use Rattle.traffic.specs.Traffic.{caller-refusal}
-use Rattle.traffic.proofs.CallerRefusal.{walk-refusal-within}
 use Rattle.jolvente.specs.Records.{lent-record, lent-met-bytes, record-bytes, card-bytes, counts-in}
 use Rattle.jolvente.specs.CCalls.{c-walk-refusal, met-bytes, walk-record, C-walk-says}
 

@@ -4,12 +4,12 @@ use Rattle.crossing.specs.Promises.{Lowest-differing, Step-crosses, Walk-crosse
 use Rattle.crossing.specs.Promises.{Places-found, Places-name-column, Answers-cross, Step-names-column, Walk-names-column}
 use Rattle.crossing.specs.Promises.{Step-column-local, Frame-step-local}
 use Rattle.crossing.proofs.Promises as crossing
-use Rattle.turns.specs.Promises.{Choice-refused, Choice-refused-keeps, Choice-counts-one, Turns-fair}
+use Rattle.turns.specs.Promises.{Choice-refused, Choice-refused-keeps, Choice-hands-back, Choice-counts-one, Run-so-far, Turns-fair}
 use Rattle.turns.proofs.Promises as turns
 use Rattle.traffic.specs.Promises.{Caller-refused, Others-kept, Caller-counted, None-counted}
 use Rattle.traffic.proofs.Promises as traffic
 use Rattle.callers.specs.Promises.{Caller-walk-arrives, Caller-walk-full, Lent-walk-arrives, Lent-walk-full, Caller-walk-refused}
-use Rattle.callers.specs.Promises.{Arrival-counted, Others-unseen, Others-uncounted, Refused-uncounted, Caller-stuck-uncounted}
+use Rattle.callers.specs.Promises.{Arrival-counted, Others-unseen, Others-uncounted, Refused-uncounted, Caller-stuck-uncounted, Lent-stuck-uncounted}
 use Rattle.callers.proofs.Promises as callers
 use Rattle.conference.specs.Promises.{Between-means, Conference-promise, Conference-refused, Conference-repeated, Conference-order}
 use Rattle.conference.proofs.Promises as conference
@@ -112,6 +112,9 @@ refused-uncounted = callers.refused-uncounted
 pub caller-stuck-uncounted : Caller-stuck-uncounted
 caller-stuck-uncounted = callers.caller-stuck-uncounted
 
+pub lent-stuck-uncounted : Lent-stuck-uncounted
+lent-stuck-uncounted = callers.lent-stuck-uncounted
+
 -- of two waiting frames: 19, 18 and 15, exactly; with a refusal nothing is handed back and no turn is counted
 pub choice-refused : Choice-refused
 choice-refused = turns.choice-refused
@@ -119,9 +122,16 @@ choice-refused = turns.choice-refused
 pub choice-refused-keeps : Choice-refused-keeps
 choice-refused-keeps = turns.choice-refused-keeps
 
--- else one turn, that of the caller whose frame is handed back; so no run of choices lets one caller get ahead by more than one
+-- else that very frame is handed back whose caller has had fewer turns, the first if level, and one turn is counted, its caller's
+pub choice-hands-back : Choice-hands-back
+choice-hands-back = turns.choice-hands-back
+
 pub choice-counts-one : Choice-counts-one
 choice-counts-one = turns.choice-counts-one
+
+-- so at no moment of a run of choices is one of two callers ahead by more than one
+pub run-so-far : Run-so-far
+run-so-far = turns.run-so-far
 
 pub turns-fair : Turns-fair
 turns-fair = turns.turns-fair

@@ -23,6 +23,10 @@ pub cond-zero : (t : Bool) (x y : ℕ) → x ≢ 0 → cond t x y ≡ 0 → (t �
 cond-zero true x y n h = absurd (n h)
 cond-zero false x y n h = (refl, h)
 
+pub cond-within : (t : Bool) (x y n : ℕ) → x ≤ n → y ≤ n → cond t x y ≤ n
+cond-within true x y n h k = h
+cond-within false x y n h k = k
+
 pub or-else-clear : (x y : Refusal) → or-else x y .number ≡ 0 → (x .number ≡ 0) × (y .number ≡ 0)
 unfolding or-else
 or-else-clear x y h =

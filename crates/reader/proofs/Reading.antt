@@ -1,18 +1,28 @@
 -- What reading answers: 12 exactly where the layout's facts fail, and the sizes of a plan that passed. Assumes nothing.
-use mathlib.Core.Path.{_≡_, refl, sym, subst}
+use mathlib.Core.Path.{_≡_, refl, sym, subst, _∙_}
 use mathlib.Core.Bool.{true, false}
 use mathlib.Core.Logic.{_≢_}
 use mathlib.Core.List.{List}
-use Prim.Native.Nat.{ℕ}
+use Prim.Native.Nat.{ℕ, _≤_}
 use native.Mathlib.Omega.{arith}
 use borrow.Author.Tests.{ne-eqb}
 use Rattle.rack.proofs.Logic.{by-bool, not-true-false}
+use Rattle.rack.proofs.Refusals.{cond-within}
 use Rattle.reader.specs.Plan.{layout-holds}
 use Rattle.reader.specs.Reading.{Laid-out, Sizes-say, no-sizes, layout-refusal, Layout-says}
 use Rattle.reader.specs.declared.layout.Sizes.{Sizes}
 use Rattle.reader.proofs.Plan.{Layout, layout-facts, facts-layout, layout-read}
 
 module _ (ps : List ℕ) where
+  -- 12 OR NONE
+  pub layout-clear : layout-refusal ps ≡ 0 → layout-holds ps ≡ true
+  unfolding layout-refusal
+  layout-clear e = by-bool (layout-holds ps) (λ t. t) (λ (t : layout-holds ps ≡ false). let n = rw t at e in absurd (omega arith))
+
+  pub layout-refusal-within : layout-refusal ps ≤ 12
+  unfolding layout-refusal
+  layout-refusal-within = cond-within (layout-holds ps) 0 12 12 (omega arith) (omega arith)
+
   -- a refusal has no sizes
   pub no-sizes-say : (refused : ℕ) (r : Sizes) → refused ≢ 0 → r ≡ no-sizes refused → Sizes-say ps refused r
   no-sizes-say refused r n e =
@@ -31,8 +41,7 @@ module _ (ps : List ℕ) where
 
   -- WHAT A CALLER LEARNS from the answer
   pub says-layout : (r : Sizes) → Layout-says ps r → r .number ≡ 0 → layout-holds ps ≡ true
-  unfolding layout-refusal
-  says-layout r s e = by-bool (layout-holds ps) (λ t. t) (λ (t : layout-holds ps ≡ false). let n = rw t at (s .number) in absurd (omega arith))
+  says-layout r s e = layout-clear (sym (s .number) ∙ e)
 
   pub says-laid-out : (r : Sizes) → Layout-says ps r → r .number ≡ 0 → Laid-out ps r
   unfolding layout-refusal

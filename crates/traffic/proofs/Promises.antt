@@ -9,9 +9,10 @@ use lib.Seq.{getD-set-same, getD-set-other, set-getD}
 use Rattle.rack.proofs.Logic.{by-eq, by-lt}
 use Rattle.reader.specs.Plan.{layout-holds}
 use Rattle.reader.specs.Reading.{layout-refusal}
+use Rattle.reader.proofs.Reading.{layout-clear, layout-refusal-within}
 use Rattle.traffic.specs.Traffic.{caller-refusal, tally-of, with-tally, raised}
 use Rattle.traffic.specs.Promises.{Caller-refused, Others-kept, Caller-counted, None-counted}
-use Rattle.traffic.proofs.CallerRefusal.{layout-clear, no-plan, no-caller, caller-passes, layout-refusal-within}
+use Rattle.traffic.proofs.CallerRefusal.{no-plan, no-caller, caller-passes}
 
 pub caller-refused : Caller-refused
 unfolding Caller-refused layout-refusal

@@ -1,17 +1,18 @@
 -- A choice counts one turn, that of the caller whose frame it hands back; so over a run that starts level the turns of two callers never differ
 -- by more than one. Assumes nothing.
-use mathlib.Core.Path.{_≡_, sym, ap, _∙_}
+use mathlib.Core.Path.{_≡_, refl, sym, ap, _∙_}
 use mathlib.Core.Logic.{_⊎_, inl, inr, ⊎-elim, _≢_}
 use mathlib.Core.List.{List, [], _∷_}
 use Prim.Native.Nat.{ℕ, suc, _≤_}
 use native.Mathlib.Omega.{arith}
 use lib.ListN.{length, getD, set, length-set}
 use lib.Seq.{getD-set-same, getD-set-other}
+use borrow.Author.Tests.{le-leb, lt-leb}
 use denote.Ref.{RefT, now}
 use Rattle.rack.specs.Limits.{most-callers}
 use Rattle.rack.proofs.Logic.{by-bool, by-eq}
 use Rattle.turns.specs.Turns.{frame-caller, first-goes, next-caller, Choice-says}
-use Rattle.turns.specs.Promises.{Choice-refused-keeps, Choice-counts-one, Choice, Between-callers, Run, Turns-fair}
+use Rattle.turns.specs.Promises.{Choice-hands-back, Choice-refused-keeps, Choice-counts-one, Choice, Between-callers, Run, Run-so-far, Turns-fair}
 use Rattle.turns.proofs.Turning.{next-first, next-second, next-fewest, next-low, choice-clear, turns-kept, turns-counted}
 
 -- ONE CHOICE
@@ -34,6 +35,13 @@ module _ (f g : RefT (List ℕ)) (ts : List ℕ) (r : RefT (List ℕ)) (us : Lis
 
   turns-long : length us ≡ length ts
   turns-long = by-eq x 0 (λ z. ap length (counted z) ∙ length-set ts next (suc (getD ts next 0))) (λ n. ap length (kept n))
+
+pub choice-hands-back : Choice-hands-back
+unfolding Choice-hands-back first-goes
+choice-hands-back f g ts r us x s z =
+    let first = getD ts (frame-caller (now f)) 0 in
+    let second = getD ts (frame-caller (now g)) 0 in
+    ((λ h. s .first z (le-leb first second h)), (λ h. s .second z (lt-leb first second h)))
 
 pub choice-refused-keeps : Choice-refused-keeps
 unfolding Choice-refused-keeps
@@ -104,6 +112,13 @@ module _ (i j : ℕ) where
   close-run [] ts us long r close = rw r close
   close-run (c ∷ cs) ts us long (mid, s, between, r) close =
       close-run cs mid us (turns-long (c .first) (c .second) ts (c .part) mid (c .number) s ∙ long) r (close-step c ts mid long s between close)
+
+pub run-so-far : Run-so-far
+unfolding Run-so-far
+run-so-far i j [] ds ts us r = (ts, refl, r)
+run-so-far i j (c ∷ cs) ds ts us (next, s, between, r) =
+    let (mid, before, after) = run-so-far i j cs ds next us r in
+    (mid, (next, s, between, before), after)
 
 pub turns-fair : Turns-fair
 unfolding Turns-fair

@@ -2,11 +2,12 @@
 -- Quotations: docs/REQUIREMENTS.md.
 use mathlib.Core.Path.{_≡_}
 use mathlib.Core.Logic.{_⊎_, _↔_, _≢_}
-use mathlib.Core.List.{List, [], _∷_}
+use mathlib.Core.List.{List, [], _∷_, _++_}
 use Prim.Native.Nat.{ℕ, suc, _≤_, _<_}
 use lib.ListN.{length, getD}
 use denote.Ref.{RefT, now}
 use Rattle.rack.specs.Limits.{most-callers, most-traffic}
+use Rattle.rack.specs.Buffers.{Slice-is}
 use Rattle.turns.specs.Turns.{frame-caller, choice-refusal, Choice-says}
 
 -- when each number is said: 19 exactly if either frame has fewer than three bytes; 18 exactly if neither has, and either's caller is over 15;
@@ -25,8 +26,15 @@ Choice-refused-keeps =
     (f g : RefT (List ℕ)) (ts : List ℕ) (r : RefT (List ℕ)) (ts-now : List ℕ) (x : ℕ) → Choice-says f g ts r ts-now x → x ≢ 0 →
     (now r ≡ []) × (ts-now ≡ ts)
 
--- "hand back the one whose caller has had fewer turns .. and add one to that turn count": the frame handed back is one of the two, its caller
--- had no more turns than either, that count rises by one, and no other number changes
+-- "hand back the one whose caller has had fewer turns, the first if level": that very slice
+unfoldable pub Choice-hands-back : Type 0
+Choice-hands-back =
+    (f g : RefT (List ℕ)) (ts : List ℕ) (r : RefT (List ℕ)) (ts-now : List ℕ) (x : ℕ) → Choice-says f g ts r ts-now x → x ≡ 0 →
+    (getD ts (frame-caller (now f)) 0 ≤ getD ts (frame-caller (now g)) 0 → Slice-is (f .ptr) (now f) r)
+    × (getD ts (frame-caller (now g)) 0 < getD ts (frame-caller (now f)) 0 → Slice-is (g .ptr) (now g) r)
+
+-- "and add one to that turn count": the frame handed back is one of the two, its caller had no more turns than either, that count rises by one,
+-- and no other number changes
 unfoldable pub Choice-counts-one : Type 0
 Choice-counts-one =
     (f g : RefT (List ℕ)) (ts : List ℕ) (r : RefT (List ℕ)) (ts-now : List ℕ) (x : ℕ) → Choice-says f g ts r ts-now x → x ≡ 0 →
@@ -54,8 +62,13 @@ Run i j [] ts us = us ≡ ts
 Run i j (c ∷ cs) ts us =
     (mid : List ℕ) × Choice-says (c .first) (c .second) ts (c .part) mid (c .number) × (c .number ≡ 0 → Between-callers i j c) × Run i j cs mid us
 
--- "Over any run of choices between the same two callers, level at its start, their turns never differ by more than one": a run up to any
--- moment is itself a run
+-- a run up to any moment is itself a run, and so is the rest of it
+unfoldable pub Run-so-far : Type 0
+Run-so-far =
+    (i j : ℕ) (cs ds : List Choice) (ts us : List ℕ) → Run i j (cs ++ ds) ts us → (mid : List ℕ) × Run i j cs ts mid × Run i j ds mid us
+
+-- "Over any run of choices between the same two callers, level at its start, their turns never differ by more than one": after any of its
+-- choices, by the statement before
 unfoldable pub Turns-fair : Type 0
 Turns-fair =
     (i j : ℕ) (cs : List Choice) (ts us : List ℕ) → length ts ≡ most-callers → getD ts i 0 ≡ getD ts j 0 → Run i j cs ts us →
