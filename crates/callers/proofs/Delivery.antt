@@ -1,23 +1,27 @@
 -- Demand 3 by caller, from what a walk says: a frame arrives by the fewest links and is counted to its caller, or a count is full and all is as it
--- was. Assumes nothing.
+-- was; and a stuck walk counts nothing. Assumes nothing.
 use mathlib.Core.Path.{_≡_, refl, ap₂, _∙_}
+use mathlib.Core.Bool.{true}
 use mathlib.Core.List.{List}
-use Prim.Native.Nat.{ℕ}
+use Prim.Native.Nat.{ℕ, _<_}
 use lib.ListN.{length}
+use Rattle.rack.specs.PlanFile.{plan-cards}
+use Rattle.reader.specs.Plan.{layout-holds}
 use Rattle.reader.specs.Reading.{layout-refusal}
 use Rattle.reader.proofs.Promises.{read-measured}
-use Rattle.forwarder.specs.Calls.{walk-refusal, Frame}
-use Rattle.forwarder.proofs.Arrival.{walk-arrived, walk-full}
+use Rattle.forwarder.specs.Forwarding.{walk}
+use Rattle.forwarder.specs.Calls.{lent-met, walk-hops, walk-refusal, Frame}
+use Rattle.forwarder.specs.Promises.{Stuck-uncounted}
+use Rattle.forwarder.proofs.Arrival.{walk-arrived, walk-full, stuck-uncounted}
 use Rattle.turns.specs.Turns.{frame-goal, frame-caller}
 use Rattle.traffic.specs.Traffic.{tally-of, raised}
 use Rattle.traffic.specs.Promises.{None-counted}
 use Rattle.traffic.specs.declared.Traffic.{Traffic}
-use Rattle.traffic.proofs.CallerRefusal.{caller-passes}
 use Rattle.traffic.proofs.Promises.{none-counted}
 use Rattle.callers.specs.Walking.{caller-walk-refusal, lent-walk-refusal, Walk-is, Caller-walk-says, Lent-walk-says}
 use Rattle.callers.specs.Walking.{Caller-frame, Caller-can-take, Caller-arrived, Caller-full, Lent-frame, Lent-can-take, Lent-arrived}
 use Rattle.callers.specs.declared.CallerWalk.{CallerWalk}
-use Rattle.callers.proofs.Refused.{own-number, lent-whole}
+use Rattle.callers.proofs.Refused.{caller-own, lent-whole}
 use Rattle.callers.proofs.Answers.{as-walked, walk-says}
 
 -- A WALK whose number is that of the walk with its caller's counts
@@ -49,11 +53,20 @@ module _ (x : ℕ) (ps : List ℕ) (a b u : ℕ) (t : Traffic) (r : CallerWalk) 
         met = g .met;
       }
 
+-- and stuck, on any plan with a layout
+pub walked-stuck : (x : ℕ) (ps : List ℕ) (a b u : ℕ) (t : Traffic) (r : CallerWalk) (old new : List ℕ) → Walk-is x ps a b u t r old new
+    → x ≡ walk-refusal ps a b (tally-of t u) (length old) → layout-holds ps ≡ true → a < plan-cards ps → b < plan-cards ps
+    → length old ≡ lent-met → walk ps a b .arrived ≡ 0
+    → (r .number ≡ 0) × (r .arrived ≡ 0) × (r .hops ≡ walk-hops (walk ps a b)) × (r .traffic ≡ t)
+unfolding Stuck-uncounted None-counted
+walked-stuck x ps a b u t r old new s own l from goal room stuck =
+    let w = as-walked ps a b u t x r old new s in
+    let k = stuck-uncounted ps a b (tally-of t u) w old new (walk-says ps a b u t x r old new s own) l from goal room stuck in
+    (k .0, k .1, k .2, s .traffic ∙ rw (k .1) (none-counted t u (r .hops)))
+
 frame-own : (ps : List ℕ) (a b u : ℕ) (t : Traffic) (old : List ℕ) → Caller-frame ps a b u old
     → caller-walk-refusal ps a b u t (length old) ≡ walk-refusal ps a b (tally-of t u) (length old)
-unfolding layout-refusal
-frame-own ps a b u t old f =
-    own-number ps a b u t (length old) (f .frame .room) (caller-passes ps u (rw (read-measured ps (f .frame .read) .layout) refl) (f .caller))
+frame-own ps a b u t old f = caller-own ps a b u t (length old) (read-measured ps (f .frame .read) .layout) (f .caller) (f .frame .room)
 
 -- BY NUMBERS
 module _ (ps : List ℕ) (a b u : ℕ) (t : Traffic) (r : CallerWalk) (old new : List ℕ) (s : Caller-walk-says ps a b u t r old new) where

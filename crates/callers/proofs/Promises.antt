@@ -1,33 +1,22 @@
 -- The promises of specs/Promises.antt, proved. Assumes nothing.
 use mathlib.Core.Path.{_≡_, refl, _∙_}
-use mathlib.Core.Bool.{true}
-use mathlib.Core.List.{List}
-use Prim.Native.Nat.{ℕ, suc, _≤_, _<_}
+use Prim.Native.Nat.{suc}
 use native.Mathlib.Omega.{arith}
 use lib.ListN.{length}
 use borrow.Author.Tests.{ne-eqb}
 use Rattle.rack.specs.Hops.{hops}
-use Rattle.rack.specs.PlanFile.{plan-cards, plan-wiring}
-use Rattle.reader.specs.Plan.{layout-holds}
+use Rattle.rack.specs.PlanFile.{plan-wiring}
 use Rattle.reader.specs.Reading.{layout-refusal}
 use Rattle.reader.proofs.Reading.{layout-clear}
-use Rattle.forwarder.specs.Forwarding.{walk}
-use Rattle.forwarder.specs.Calls.{lent-met, walk-hops, walk-refusal}
-use Rattle.forwarder.specs.Promises.{Stuck-uncounted}
-use Rattle.forwarder.proofs.Promises.{stuck-uncounted}
 use Rattle.turns.specs.Turns.{frame-goal, frame-caller}
 use Rattle.traffic.specs.Traffic.{tally-of}
 use Rattle.traffic.specs.Promises.{Caller-refused, Others-kept, Caller-counted, None-counted}
-use Rattle.traffic.specs.declared.Traffic.{Traffic}
-use Rattle.traffic.proofs.CallerRefusal.{caller-passes}
 use Rattle.traffic.proofs.Promises.{caller-refused, others-kept, caller-counted, none-counted}
-use Rattle.callers.specs.Walking.{caller-walk-refusal, lent-walk-refusal, Walk-is}
-use Rattle.callers.specs.declared.CallerWalk.{CallerWalk}
+use Rattle.callers.specs.Walking.{caller-walk-refusal, lent-walk-refusal}
 use Rattle.callers.specs.Promises.{Caller-walk-arrives, Caller-walk-full, Lent-walk-arrives, Lent-walk-full, Caller-walk-refused}
 use Rattle.callers.specs.Promises.{Arrival-counted, Others-unseen, Others-uncounted, Refused-uncounted, Caller-stuck-uncounted, Lent-stuck-uncounted}
-use Rattle.callers.proofs.Refused.{own-number, eighteen-only, eighteen-said, lent-short, lent-whole, nineteen-only, lent-eighteen-only}
-use Rattle.callers.proofs.Answers.{as-walked, walk-says}
-use Rattle.callers.proofs.Delivery.{arrives, full, lent-arrives, lent-full}
+use Rattle.callers.proofs.Refused.{caller-own, eighteen-only, eighteen-said, lent-short, lent-whole, nineteen-only, lent-eighteen-only}
+use Rattle.callers.proofs.Delivery.{arrives, full, lent-arrives, lent-full, walked-stuck}
 
 -- DEMAND 3, with every condition written out
 pub caller-walk-arrives : Caller-walk-arrives
@@ -102,27 +91,11 @@ refused-uncounted x ps a b u t r old new s n =
     let none : r .arrived ≡ 0 = s .arrived ∙ rw e refl in
     (none, s .hops ∙ rw e refl, s .crossed .found ∙ rw e refl, s .traffic ∙ rw none (none-counted t u (r .hops)), s .met ∙ rw e refl)
 
--- stuck, where the number is that of the walk with the caller's counts
-walked-stuck : (x : ℕ) (ps : List ℕ) (a b u : ℕ) (t : Traffic) (r : CallerWalk) (old new : List ℕ) → Walk-is x ps a b u t r old new
-    → x ≡ walk-refusal ps a b (tally-of t u) (length old) → layout-holds ps ≡ true → a < plan-cards ps → b < plan-cards ps
-    → length old ≡ lent-met → walk ps a b .arrived ≡ 0
-    → (r .number ≡ 0) × (r .arrived ≡ 0) × (r .hops ≡ walk-hops (walk ps a b)) × (r .traffic ≡ t)
-unfolding Stuck-uncounted None-counted
-walked-stuck x ps a b u t r old new s own l from goal room stuck =
-    let w = as-walked ps a b u t x r old new s in
-    let k = stuck-uncounted ps a b (tally-of t u) w old new (walk-says ps a b u t x r old new s own) l from goal room stuck in
-    (k .0, k .1, k .2, s .traffic ∙ rw (k .1) (none-counted t u (r .hops)))
-
-stuck-own : (ps : List ℕ) (a b u : ℕ) (t : Traffic) (room : ℕ) → layout-holds ps ≡ true → u ≤ 15 → room ≡ lent-met
-    → caller-walk-refusal ps a b u t room ≡ walk-refusal ps a b (tally-of t u) room
-unfolding layout-refusal
-stuck-own ps a b u t room l low e = own-number ps a b u t room e (caller-passes ps u (rw l refl) (omega arith))
-
 pub caller-stuck-uncounted : Caller-stuck-uncounted
 unfolding Caller-stuck-uncounted
 caller-stuck-uncounted ps a b u t r old new s l from goal caller room stuck =
-    walked-stuck (caller-walk-refusal ps a b u t (length old)) ps a b u t r old new s (stuck-own ps a b u t (length old) l caller room) l from goal room
-    stuck
+    walked-stuck (caller-walk-refusal ps a b u t (length old)) ps a b u t r old new s (caller-own ps a b u t (length old) l (omega arith) room) l from
+    goal room stuck
 
 pub lent-stuck-uncounted : Lent-stuck-uncounted
 unfolding Lent-stuck-uncounted layout-refusal
@@ -130,4 +103,4 @@ lent-stuck-uncounted ps a f t r old new s l from whole goal caller room stuck =
     let b = frame-goal f in
     let u = frame-caller f in
     walked-stuck (lent-walk-refusal ps a f t (length old)) ps a b u t r old new s
-    (lent-whole ps a f t (length old) room (rw l refl) whole ∙ stuck-own ps a b u t (length old) l caller room) l from goal room stuck
+    (lent-whole ps a f t (length old) room (rw l refl) whole ∙ caller-own ps a b u t (length old) l (omega arith) room) l from goal room stuck

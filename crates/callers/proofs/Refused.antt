@@ -1,12 +1,15 @@
 -- What refuses a walk by caller and that of a lent frame, number by number, and exactly when 18 and 19 are said. Assumes nothing.
 use mathlib.Core.Path.{_≡_, refl, sym, _∙_}
+use mathlib.Core.Bool.{true}
 use mathlib.Core.Logic.{_≢_}
 use mathlib.Core.List.{List}
 use Prim.Native.Nat.{ℕ, _≤_, _<_}
 use native.Mathlib.Omega.{arith}
 use lib.ListN.{length}
 use borrow.Author.Tests.{eq-eqb, ne-eqb, lt-ltb, le-ltb}
+use Rattle.rack.specs.Limits.{most-callers}
 use Rattle.rack.proofs.Logic.{by-eq, by-lt}
+use Rattle.reader.specs.Plan.{layout-holds}
 use Rattle.reader.specs.Reading.{layout-refusal}
 use Rattle.reader.proofs.Reading.{layout-refusal-within}
 use Rattle.forwarder.specs.Calls.{lent-met, walk-refusal}
@@ -14,7 +17,7 @@ use Rattle.forwarder.proofs.Answers.{walk-refusal-within}
 use Rattle.turns.specs.Turns.{least-frame, frame-goal, frame-caller}
 use Rattle.traffic.specs.Traffic.{caller-refusal, tally-of}
 use Rattle.traffic.specs.declared.Traffic.{Traffic}
-use Rattle.traffic.proofs.CallerRefusal.{caller-refusal-within}
+use Rattle.traffic.proofs.CallerRefusal.{caller-passes, caller-refusal-within}
 use Rattle.callers.specs.Walking.{caller-walk-refusal, lent-walk-refusal}
 
 -- BY NUMBERS: 1, then 12 and 18, then the walk's own
@@ -30,6 +33,11 @@ module _ (ps : List ℕ) (a b u : ℕ) (t : Traffic) (room : ℕ) where
   pub own-number : room ≡ lent-met → caller-refusal ps u ≡ 0 → caller-walk-refusal ps a b u t room ≡ walk-refusal ps a b (tally-of t u) room
   unfolding caller-walk-refusal
   own-number e z = rw (eq-eqb room lent-met e, eq-eqb (caller-refusal ps u) 0 z) refl
+
+  pub caller-own : layout-holds ps ≡ true → u < most-callers → room ≡ lent-met
+      → caller-walk-refusal ps a b u t room ≡ walk-refusal ps a b (tally-of t u) room
+  unfolding layout-refusal
+  caller-own l h e = own-number e (caller-passes ps u (rw l refl) h)
 
   by-number : {A : Type 0} → (caller-walk-refusal ps a b u t room ≡ 1 → A)
       → (room ≡ lent-met → caller-walk-refusal ps a b u t room ≡ caller-refusal ps u → A)
