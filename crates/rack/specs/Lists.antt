@@ -1,4 +1,4 @@
--- Counts, searches and tables over lists and numbers. Assumes nothing: these are definitions.
+-- Counts, sums, searches and tables over lists and numbers. Assumes nothing: these are definitions.
 use mathlib.Core.Bool.{Bool, true, false, _&&_, _||_, not, cond}
 use mathlib.Core.List.{List, [], _∷_, _++_}
 use Prim.Native.Nat.{ℕ, zero, suc, _+_}
@@ -41,6 +41,11 @@ range n = tabulate n (λ i. i)
 abbrev pub blocks : {A : Type 0} → (n : ℕ) → (ℕ → List A) → List A
 blocks zero f = []
 blocks (suc n) f = f 0 ++ blocks n (λ i. f (suc i))
+
+-- the sum of a list
+unfoldable pub sum : List ℕ → ℕ
+sum [] = 0
+sum (x ∷ xs) = x + sum xs
 
 -- the lowest number below n that passes the test, n if none does
 abbrev pub lowest : (n : ℕ) → (ℕ → Bool) → ℕ

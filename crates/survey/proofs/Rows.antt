@@ -6,18 +6,19 @@ use Prim.Native.Nat.{ℕ, zero, suc, _+_, _*_, _-_, _≤_, _<_, min, max}
 use native.Mathlib.Omega.{arith}
 use lib.ListN.{length, getD, set, length-set}
 use lib.Seq.{getD-set-same, getD-set-other, set-getD}
+use Rattle.rack.specs.Lists.{sum}
 use Rattle.rack.specs.Limits.{lent-hops}
 use Rattle.rack.specs.Wiring.{Wiring}
 use Rattle.rack.specs.Hops.{hops}
 use Rattle.rack.proofs.Logic.{by-eq, by-lt}
-use Rattle.survey.specs.Tables.{cell, total}
+use Rattle.survey.specs.Tables.{cell}
 use Rattle.survey.specs.Lowering.{Lowered, Above}
 
-total-set : (l : List ℕ) (i v : ℕ) → i < length l → total (set l i v) + getD l i 0 ≡ total l + v
-unfolding total
-total-set [] i v h = omega arith
-total-set (x ∷ l) zero v h = omega arith
-total-set (x ∷ l) (suc i) v h = omega (arith, total-set l i v (omega arith))
+sum-set : (l : List ℕ) (i v : ℕ) → i < length l → sum (set l i v) + getD l i 0 ≡ sum l + v
+unfolding sum
+sum-set [] i v h = omega arith
+sum-set (x ∷ l) zero v h = omega arith
+sum-set (x ∷ l) (suc i) v h = omega (arith, sum-set l i v (omega arith))
 
 -- no place lowered yet
 pub lowered-none : (h : List ℕ) (to by : ℕ) → Lowered h h to by 0 0
@@ -53,7 +54,7 @@ module _ (old new : List ℕ) (to by b off z off′ : ℕ) (p : Lowered old new 
         lower = lower-more;
         before = λ i l. getD-set-other new (256 * to + b) i z 0 (omega arith) ∙ p .before i l;
         after = λ i l. getD-set-other new (256 * to + b) i z 0 (omega arith) ∙ p .after i (omega arith);
-        taken = omega (arith, p .taken, total-set new (256 * to + b) z (omega (arith, p .long)));
+        taken = omega (arith, p .taken, sum-set new (256 * to + b) z (omega (arith, p .long)));
         still = still-more;
       }
 

@@ -5,10 +5,11 @@ use mathlib.Core.List.{List}
 use Prim.Native.Nat.{ℕ, _+_, _*_, _-_, _≤_, _<_, min}
 use lib.Dec.{ltb, leb, eqb}
 use lib.ListN.{length, getD}
+use Rattle.rack.specs.Lists.{sum}
 use Rattle.rack.specs.Limits.{lent-hops, most-cards}
 use Rattle.rack.specs.Wiring.{Wiring, link-at}
 use Rattle.rack.specs.Hops.{hops}
-use Rattle.survey.specs.Tables.{cell, total}
+use Rattle.survey.specs.Tables.{cell}
 
 -- the first `upto` places of row `to` are lowered to one more than those of row `by`; `off` is the most that was taken off at one place
 pub record Lowered (old new : List ℕ) (to by upto off : ℕ) : Type 0 where
@@ -16,7 +17,7 @@ pub record Lowered (old new : List ℕ) (to by upto off : ℕ) : Type 0 where
   pub lower : (b : ℕ) → b < upto → cell new to b ≡ min (cell old to b) (cell old by b + 1)
   pub before : (i : ℕ) → i < most-cards * to → getD new i 0 ≡ getD old i 0
   pub after : (i : ℕ) → most-cards * to + upto ≤ i → getD new i 0 ≡ getD old i 0
-  pub taken : total new + off ≤ total old
+  pub taken : sum new + off ≤ sum old
   pub still : off ≡ 0 → new ≡ old
 
 -- an upper bound of hops at each pair of cards, and 0 elsewhere
@@ -36,14 +37,14 @@ pub record Tight (w : Wiring) (h : List ℕ) (i : ℕ) : Type 0 where
 -- what lowering by the links from `from` to before `upto` does; `off` is the most that was taken off at one place
 pub record Passed (w : Wiring) (old new : List ℕ) (from upto off : ℕ) : Type 0 where
   pub above : Above w new
-  pub taken : total new + off ≤ total old
+  pub taken : sum new + off ≤ sum old
   pub still : off ≡ 0 → new ≡ old
   pub tight : off ≡ 0 → (i : ℕ) → from ≤ i → i < upto → Tight w new i
 
 -- what lowering by some links does
 pub record Swept (w : Wiring) (old new : List ℕ) : Type 0 where
   pub above : Above w new
-  pub less : total new ≤ total old
+  pub less : sum new ≤ sum old
 
 -- what is known of hops from card a to another in a connected rack before any link was looked at: fewer than n
 unfoldable pub row-bound : (n a : ℕ) → ℕ

@@ -1,6 +1,6 @@
 -- The lent bytes as a table: hops (or marks, flags, bounds) in 256 rows of 256. Assumes nothing: these are definitions.
 use mathlib.Core.Path.{_≡_}
-use mathlib.Core.List.{List, [], _∷_}
+use mathlib.Core.List.{List}
 use Prim.Native.Nat.{ℕ, _+_, _*_, _≤_, _<_}
 use lib.ListN.{length, getD}
 use Rattle.rack.specs.Limits.{lent-hops, most-cards}
@@ -10,11 +10,6 @@ use Rattle.rack.specs.Hops.{hops}
 -- row a, place b
 abbrev pub cell : List ℕ → (a b : ℕ) → ℕ
 cell h a b = getD h (most-cards * a + b) 0
-
--- the sum of a list
-unfoldable pub total : List ℕ → ℕ
-total [] = 0
-total (x ∷ xs) = x + total xs
 
 -- the hops between all cards, and 0 elsewhere
 pub record Hops-in (w : Wiring) (h : List ℕ) : Type 0 where

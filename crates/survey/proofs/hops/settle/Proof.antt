@@ -1,11 +1,12 @@
--- The bounds stay above hops, and once a pass over every link takes nothing off they are hops; each turn that goes on lowers their total. Assumes nothing.
+-- The bounds stay above hops, and once a pass over every link takes nothing off they are hops; each turn that goes on lowers their sum. Assumes nothing.
 use mathlib.Core.Path.{_≡_}
 use Prim.Native.Nat.{_+_}
 use native.Mathlib.Omega.{arith}
 use borrow.Author.Needs.{needs}
+use Rattle.rack.specs.Lists.{sum}
 use Rattle.rack.specs.WiringFile.{file-wiring}
 use Rattle.survey.specs.Lowering.{Above}
-use Rattle.survey.specs.Tables.{total, Hops-in}
+use Rattle.survey.specs.Tables.{Hops-in}
 use Rattle.survey.proofs.Passes.{passed-hops}
 use Rattle.survey.proofs.hops.settle.Statement.{statement}
 use Rattle.survey.proofs.hops.settle.Tie as tie
@@ -14,7 +15,7 @@ abbrev Inv-loop : tie.InvT-loop
 Inv-loop file n m order bounds₀ off₀ bounds off = Above (file-wiring file) bounds × (off ≡ 0 → Hops-in (file-wiring file) bounds)
 
 abbrev μ-loop : tie.MeasureT-loop
-μ-loop file n m order bounds₀ off₀ bounds off = total bounds + off
+μ-loop file n m order bounds₀ off₀ bounds off = sum bounds + off
 
 loop-holds : tie.Need-loop-holds Inv-loop μ-loop
 loop-holds c = (c .before .before .pre .1, λ e. absurd (omega arith))

@@ -1,0 +1,5 @@
+pub mod Sums
+pub mod Totals
+pub mod Products
+pub mod Chains
+pub mod Promises
