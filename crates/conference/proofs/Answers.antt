@@ -1,5 +1,5 @@
--- What refuses three callers, and the answer from what reading and the search give. Assumes nothing.
-use mathlib.Core.Path.{_≡_, refl, sym, _∙_, subst}
+-- What refuses three callers, and the answer from what the sizes and the search give. Assumes nothing.
+use mathlib.Core.Path.{_≡_, refl, sym, ap, _∙_, subst}
 use mathlib.Core.Bool.{_||_}
 use mathlib.Core.Logic.{_⊎_, inl, inr, _≢_}
 use mathlib.Core.List.{List}
@@ -10,10 +10,10 @@ use borrow.Author.Tests.{eq-eqb, ne-eqb, le-leb, lt-leb, le-ltb, lt-ltb}
 use Rattle.rack.specs.PlanFile.{plan-cards, plan-wiring}
 use Rattle.rack.proofs.Logic.{by-eq, by-lt, or-right}
 use Rattle.reader.specs.Plan.{plan-refusal}
+use Rattle.reader.specs.Promises.{Measured}
 use Rattle.reader.specs.Reading.{Laid-out, Read-says}
 use Rattle.reader.specs.declared.layout.Sizes.{Sizes}
-use Rattle.reader.proofs.AddressPart.{read-laid-out}
-use Rattle.conference.specs.Conference.{conference, three-refusal, conference-refusal, Conference-says}
+use Rattle.conference.specs.Conference.{conference, three-refusal, conference-refusal, Conference-is}
 use Rattle.conference.specs.Callers.{no-card}
 use Rattle.conference.specs.declared.Conference.{Conference}
 
@@ -56,10 +56,10 @@ module _ (ps : List ℕ) (a b c : ℕ) where
   answered-inside z = clear-inside (plan-refusal ps) n a b c z
 
   -- THE ANSWER without a card: a refusal, or the search found none
-  no-card-says : (x : ℕ) (q : Conference) → q ≡ no-card x → x ≡ conference-refusal ps a b c
-      → (x ≡ 0 → n ≤ conference (plan-wiring ps) a b c) → Conference-says ps a b c q
-  no-card-says x q e f none =
-      subst (Conference-says ps a b c) (sym e)
+  no-card-is : (refused x : ℕ) (q : Conference) → q ≡ no-card x → x ≡ refused → (x ≡ 0 → n ≤ conference (plan-wiring ps) a b c)
+      → Conference-is refused ps a b c q
+  no-card-is refused x q e f none =
+      subst (Conference-is refused ps a b c) (sym e)
       (record {
         number = f;
         found = by-eq x 0
@@ -68,40 +68,48 @@ module _ (ps : List ℕ) (a b c : ℕ) where
         card = refl;
       })
 
-  -- AS THE CODE goes on from what reading answers
-  module _ (r : Sizes) (s : Read-says ps r) (x : ℕ) (f : x ≡ three-refusal (r .number) (r .cards) a b c) where
-    refusal-read : x ≡ conference-refusal ps a b c
-    unfolding three-refusal conference-refusal
-    refusal-read =
-        by-eq (plan-refusal ps) 0
-        (λ e. let t = eq-eqb (plan-refusal ps) 0 e in f ∙ rw (s .number, s .cards, t) refl)
-        (λ d. let t = ne-eqb (plan-refusal ps) 0 d in f ∙ rw (s .number, t) refl)
+  module _ (r : Sizes) where
+    abbrev refusal : ℕ
+    refusal = three-refusal (r .number) n a b c
 
-    pub says-refused : (q : Conference) → x ≢ 0 → q ≡ no-card x → Conference-says ps a b c q
-    says-refused q d e = no-card-says x q e refusal-read (λ z. absurd (d z))
+    -- AS READING answers: the number is the plan's
+    pub read-refusal : Read-says ps r → refusal ≡ conference-refusal ps a b c
+    unfolding conference-refusal
+    read-refusal s = rw (s .number) refl
 
-    module _ (e : x ≡ 0) where
-      inside : (plan-refusal ps ≡ 0) × (a < n) × (b < n) × (c < n)
-      inside = answered-inside (sym refusal-read ∙ e)
+    -- AS THE CODE goes on from the sizes
+    module _ (known : r .number ≡ 0 → Laid-out ps r × Measured ps) (x : ℕ) (f : x ≡ three-refusal (r .number) (r .cards) a b c) where
+      refusal-counted : x ≡ refusal
+      refusal-counted =
+          by-eq (r .number) 0
+          (λ e. f ∙ ap (λ (k : ℕ). three-refusal (r .number) k a b c) (known e .0 .cards))
+          (λ d. f ∙ refused-before (r .number) (r .cards) a b c d ∙ sym (refused-before (r .number) n a b c d))
 
-      pub was-read : r .number ≡ 0
-      was-read = s .number ∙ inside .0
+      pub says-refused : (q : Conference) → x ≢ 0 → q ≡ no-card x → Conference-is refusal ps a b c q
+      says-refused q d e = no-card-is refusal x q e refusal-counted (λ z. absurd (d z))
 
-      pub laid-out : Laid-out ps r
-      laid-out = read-laid-out ps a r s was-read
+      module _ (e : x ≡ 0) where
+        inside : (r .number ≡ 0) × (a < n) × (b < n) × (c < n)
+        inside = clear-inside (r .number) n a b c (sym refusal-counted ∙ e)
 
-      pub cards-inside : (a < r .cards) × (b < r .cards) × (c < r .cards)
-      cards-inside = rw (laid-out .cards) (inside .1, inside .2, inside .3)
+        pub laid-out : Laid-out ps r
+        laid-out = known (inside .0) .0
 
-      -- the search ended at y
-      module _ (y : ℕ) (is : y ≡ conference (plan-wiring ps) a b c) where
-        pub says-none : (q : Conference) → r .cards ≤ y → q ≡ no-card 0 → Conference-says ps a b c q
-        says-none q h g = no-card-says 0 q g (sym e ∙ refusal-read) (λ z. omega (arith, is, laid-out .cards))
+        pub measured : Measured ps
+        measured = known (inside .0) .1
 
-        pub says-found : y < r .cards → Conference-says ps a b c (record { number = 0; found = 1; card = y })
-        says-found h =
-            record {
-              number = sym e ∙ refusal-read;
-              found = rw (lt-ltb (conference (plan-wiring ps) a b c) n (omega (arith, is, laid-out .cards))) refl;
-              card = is;
-            }
+        pub cards-inside : (a < r .cards) × (b < r .cards) × (c < r .cards)
+        cards-inside = rw (laid-out .cards) (inside .1, inside .2, inside .3)
+
+        -- the search ended at y
+        module _ (y : ℕ) (is : y ≡ conference (plan-wiring ps) a b c) where
+          pub says-none : (q : Conference) → r .cards ≤ y → q ≡ no-card 0 → Conference-is refusal ps a b c q
+          says-none q h g = no-card-is refusal 0 q g (sym e ∙ refusal-counted) (λ z. omega (arith, is, laid-out .cards))
+
+          pub says-found : y < r .cards → Conference-is refusal ps a b c (record { number = 0; found = 1; card = y })
+          says-found h =
+              record {
+                number = sym e ∙ refusal-counted;
+                found = rw (lt-ltb (conference (plan-wiring ps) a b c) n (omega (arith, is, laid-out .cards))) refl;
+                card = is;
+              }

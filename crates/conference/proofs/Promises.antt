@@ -21,7 +21,7 @@ use Rattle.reader.proofs.Plan.{plan-refusal-most}
 use Rattle.reader.proofs.Promises.{read-measured}
 use Rattle.reader.proofs.Measured.{plan-embedding, plan-connected}
 use Rattle.conference.specs.Conference.{On-all-three, between, median, conference, majority}
-use Rattle.conference.specs.Conference.{three-refusal, conference-refusal, Conference-says, Card-or-none}
+use Rattle.conference.specs.Conference.{three-refusal, conference-refusal, Conference-is, Card-or-none}
 use Rattle.conference.specs.Promises.{Between-means, Conference-promise, Conference-refused, Conference-order, Conference-repeated}
 use Rattle.conference.specs.declared.Conference.{Conference}
 use Rattle.conference.proofs.Answers.{Some-outside, refused-before, some-outside, all-inside, inside-or-outside, clear-inside, answered-inside}
@@ -33,8 +33,8 @@ pub between-means : Between-means
 unfolding Between-means
 between-means w a x b whole ha hx hb = (between-on-shortest w a x b whole ha hx hb, on-shortest-between w a x b)
 
--- AN ANSWER that is no refusal, from the reader's promise alone
-module _ (ps : List ℕ) (a b c : ℕ) (r : Conference) (s : Conference-says ps a b c r) (z : r .number ≡ 0) where
+-- AN ANSWER that is no refusal, on a plan whose bits measure its wiring
+module _ (ps : List ℕ) (measured : Measured ps) (a b c : ℕ) (ha : a < plan-cards ps) (hb : b < plan-cards ps) (hc : c < plan-cards ps) where
   abbrev w : Wiring
   w = plan-wiring ps
 
@@ -44,30 +44,17 @@ module _ (ps : List ℕ) (a b c : ℕ) (r : Conference) (s : Conference-says ps 
   abbrev n : ℕ
   n = plan-cards ps
 
-  inside : (plan-refusal ps ≡ 0) × (a < n) × (b < n) × (c < n)
-  inside = answered-inside ps a b c (sym (s .number) ∙ z)
-
-  measured : Measured ps
-  measured = read-measured ps (inside .0)
-
   card : (x : ℕ) → x < n → x < w .cards
   card x h = omega (arith, wiring-at-cards 6 ps)
-
-  found : r .found ≡ one (ltb lowest-median n)
-  found = s .found ∙ rw (eq-eqb (r .number) 0 z) refl
 
   -- the test and its meaning
   on-all : (x : ℕ) → x < n → median w a b c x ≡ true → On-all-three w a b c x
   on-all x h e =
       let whole = plan-connected ps measured in
-      let t = median-tests w a b c x e in
-      let ha = card a (inside .1) in
-      let hb = card b (inside .2) in
-      let hc = card c (inside .3) in
-      let hx = card x h in (
-        between-on-shortest w a x b whole ha hx hb (t .0),
-        between-on-shortest w a x c whole ha hx hc (t .1),
-        between-on-shortest w b x c whole hb hx hc (t .2),
+      let t = median-tests w a b c x e in (
+        between-on-shortest w a x b whole (card a ha) (card x h) (card b hb) (t .0),
+        between-on-shortest w a x c whole (card a ha) (card x h) (card c hc) (t .1),
+        between-on-shortest w b x c whole (card b hb) (card x h) (card c hc) (t .2),
       )
 
   passes : (x : ℕ) → On-all-three w a b c x → median w a b c x ≡ true
@@ -76,64 +63,81 @@ module _ (ps : List ℕ) (a b c : ℕ) (r : Conference) (s : Conference-says ps 
   -- from the plan's bits, which embed the wiring inside
   only-median : (x y : ℕ) → x < n → y < n → median w a b c x ≡ true → median w a b c y ≡ true → x ≡ y
   only-median x y hx hy =
-      median-once w (plan-columns ps) (plan-bit ps) (plan-embedding ps measured) a b c (card a (inside .1)) (card b (inside .2)) (card c (inside .3))
+      median-once w (plan-columns ps) (plan-bit ps) (plan-embedding ps measured) a b c (card a ha) (card b hb) (card c hc)
       x y (card x hx) (card y hy)
 
   majority-bits : (x : ℕ) → x < n → median w a b c x ≡ true → (j : ℕ) → j < plan-columns ps
       → plan-bit ps x j ≡ majority (plan-bit ps a j) (plan-bit ps b j) (plan-bit ps c j)
   majority-bits x hx =
-      median-bits w (plan-columns ps) (plan-bit ps) (plan-embedding ps measured) a b c (card a (inside .1)) (card b (inside .2)) (card c (inside .3))
+      median-bits w (plan-columns ps) (plan-bit ps) (plan-embedding ps measured) a b c (card a ha) (card b hb) (card c hc)
       x (card x hx)
 
-  module _ (l : lowest-median < n) where
-    is-found : r .found ≡ 1
-    is-found = found ∙ ap one (lt-ltb lowest-median n l)
+  module _ (r : Conference) (s : Conference-is 0 ps a b c r) where
+    found : r .found ≡ one (ltb lowest-median n)
+    found = s .found ∙ rw (s .number) refl
 
-    is-lowest : r .card ≡ lowest-median
-    is-lowest = s .card ∙ rw is-found refl
+    module _ (l : lowest-median < n) where
+      is-found : r .found ≡ 1
+      is-found = found ∙ ap one (lt-ltb lowest-median n l)
 
-    lowest-tested : median w a b c lowest-median ≡ true
-    unfolding conference
-    lowest-tested = lowest-passes (w .cards) (median w a b c) (card lowest-median l)
+      is-lowest : r .card ≡ lowest-median
+      is-lowest = s .card ∙ rw is-found refl
 
-    card-answered : Card-or-none ps a b c r
-    card-answered =
-        let all = on-all lowest-median l lowest-tested in
-        record {
-          either = inr is-found;
-          inside = λ e. omega (arith, is-lowest);
-          on-all = λ e. rw is-lowest all;
-          only = λ e x hx o. only-median x lowest-median hx l (passes x o) lowest-tested ∙ sym is-lowest;
-          bits = λ e. rw is-lowest (majority-bits lowest-median l lowest-tested);
-          none = ((λ e. absurd (omega (arith, is-found))), λ never. absurd (never lowest-median l all));
-        }
+      lowest-tested : median w a b c lowest-median ≡ true
+      unfolding conference
+      lowest-tested = lowest-passes (w .cards) (median w a b c) (card lowest-median l)
 
-  module _ (l : n ≤ lowest-median) where
-    not-found : r .found ≡ 0
-    not-found = found ∙ ap one (le-ltb lowest-median n l)
+      card-answered : Card-or-none ps a b c r
+      card-answered =
+          let all = on-all lowest-median l lowest-tested in
+          record {
+            either = inr is-found;
+            inside = λ e. omega (arith, is-lowest);
+            on-all = λ e. rw is-lowest all;
+            only = λ e x hx o. only-median x lowest-median hx l (passes x o) lowest-tested ∙ sym is-lowest;
+            bits = λ e. rw is-lowest (majority-bits lowest-median l lowest-tested);
+            none = ((λ e. absurd (omega (arith, is-found))), λ never. absurd (never lowest-median l all));
+          }
 
-    no-median : (x : ℕ) → x < n → median w a b c x ≡ false
-    unfolding conference
-    no-median x h = lowest-first (w .cards) (median w a b c) x (omega arith)
+    module _ (l : n ≤ lowest-median) where
+      not-found : r .found ≡ 0
+      not-found = found ∙ ap one (le-ltb lowest-median n l)
 
-    never : {C : Type 0} → r .found ≡ 1 → C
-    never e = absurd (omega (arith, not-found))
+      no-median : (x : ℕ) → x < n → median w a b c x ≡ false
+      unfolding conference
+      no-median x h = lowest-first (w .cards) (median w a b c) x (omega arith)
 
-    none-answered : Card-or-none ps a b c r
-    none-answered =
-        record {
-          either = inl not-found;
-          inside = λ e. never e;
-          on-all = λ e. never e;
-          only = λ e. never e;
-          bits = λ e. never e;
-          none = ((λ e x h o. true-not-false (median w a b c x) (passes x o) (no-median x h)), λ _. not-found);
-        }
+      never : {C : Type 0} → r .found ≡ 1 → C
+      never e = absurd (omega (arith, not-found))
+
+      none-answered : Card-or-none ps a b c r
+      none-answered =
+          record {
+            either = inl not-found;
+            inside = λ e. never e;
+            on-all = λ e. never e;
+            only = λ e. never e;
+            bits = λ e. never e;
+            none = ((λ e x h o. true-not-false (median w a b c x) (passes x o) (no-median x h)), λ _. not-found);
+          }
+
+    pub card-or-none : Card-or-none ps a b c r
+    card-or-none = by-lt lowest-median n card-answered none-answered
+
+-- what was said with the number x before it, together with what follows of it
+pub with-promise : (ps : List ℕ) (a b c x : ℕ) → (x ≡ 0 → Measured ps) → (r : Conference) → Conference-is (three-refusal x (plan-cards ps) a b c) ps a b c r
+    → Conference-is (three-refusal x (plan-cards ps) a b c) ps a b c r × (r .number ≡ 0 → Card-or-none ps a b c r)
+with-promise ps a b c x read r s = (s, promised)
+  where
+    promised : r .number ≡ 0 → Card-or-none ps a b c r
+    promised z =
+        let clear = sym (s .number) ∙ z in
+        let (e, ha, hb, hc) = clear-inside x (plan-cards ps) a b c clear in
+        card-or-none ps (read e) a b c ha hb hc r (rw clear at s)
 
 pub conference-promise : Conference-promise
-unfolding Conference-promise
-conference-promise ps a b c r s z =
-    by-lt (lowest-median ps a b c r s z) (plan-cards ps) (card-answered ps a b c r s z) (none-answered ps a b c r s z)
+unfolding Conference-promise conference-refusal
+conference-promise ps a b c r s = with-promise ps a b c (plan-refusal ps) (read-measured ps) r s .1
 
 -- THE REFUSALS
 pub conference-refused : Conference-refused
@@ -166,8 +170,8 @@ pub conference-repeated : Conference-repeated
 unfolding Conference-repeated Conference-promise
 conference-repeated ps a b r s z =
     let p = conference-promise ps a a b r s z in
-    let h = inside ps a a b r s z .1 in
-    let all = on-all ps a a b r s z a h (named-twice (plan-wiring ps) a b) in
+    let (e, h, _, hb) = answered-inside ps a a b (sym (s .number) ∙ z) in
+    let all = on-all ps (read-measured ps e) a a b h h hb a h (named-twice (plan-wiring ps) a b) in
     ⊎-elim (λ e. absurd (p .none .0 e a h all)) (λ e. (e, sym (p .only e a h all))) (p .either)
 
 pub conference-order : Conference-order

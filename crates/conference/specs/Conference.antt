@@ -46,10 +46,13 @@ unfoldable pub conference-refusal : List ℕ → (a b c : ℕ) → ℕ
 conference-refusal ps a b c = three-refusal (plan-refusal ps) (plan-cards ps) a b c
 
 -- 1 and the card, or 0 and 0 for "none"; zeros with a refusal
-pub record Conference-says (ps : List ℕ) (a b c : ℕ) (r : Conference) : Type 0 where
-  pub number : r .number ≡ conference-refusal ps a b c
+pub record Conference-is (refused : ℕ) (ps : List ℕ) (a b c : ℕ) (r : Conference) : Type 0 where
+  pub number : r .number ≡ refused
   pub found : r .found ≡ cond (eqb (r .number) 0) (one (ltb (conference (plan-wiring ps) a b c) (plan-cards ps))) 0
   pub card : r .card ≡ cond (eqb (r .found) 1) (conference (plan-wiring ps) a b c) 0
+
+abbrev pub Conference-says : List ℕ → (a b c : ℕ) → Conference → Type 0
+Conference-says ps a b c r = Conference-is (conference-refusal ps a b c) ps a b c r
 
 -- on a plan that was read, a card on all three kinds of way: "there is never more than one", "its address takes in each column the bit that
 -- at least two callers have"; and "'none' is said exactly if no card lies on all three kinds of way"

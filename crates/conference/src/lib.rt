@@ -2,11 +2,11 @@
 ghost use mathlib.Core.Path.{_≡_};
 ghost use Prim.Native.Nat.{_<_};
 ghost use Rattle.rack.specs.Ones.{Counts};
-ghost use Rattle.rack.specs.PlanFile.{plan-wiring};
+ghost use Rattle.rack.specs.PlanFile.{plan-cards, plan-wiring};
 ghost use Rattle.reader.specs.Promises.{Measured};
 ghost use Rattle.reader.specs.Reading.{Laid-out};
 ghost use Rattle.conference.specs.Callers.{Callers-are, no-card};
-ghost use Rattle.conference.specs.Conference.{Card-or-none, Conference-says, conference, median, three-refusal};
+ghost use Rattle.conference.specs.Conference.{Card-or-none, Conference-is, Conference-says, conference, median, three-refusal};
 use rack::ones::ones_table;
 use reader::layout::Sizes;
 use reader::places::plan_hamming;
@@ -99,12 +99,12 @@ fn three_refusal(sizes: Sizes, a: u32, b: u32, c: u32) -> u32
     0
 }
 
-// The card that is on a shortest path between each two of three cards, or none: 12, 13, 14.
-pub fn conference_card(plan: &[u8], a: u32, b: u32, c: u32) -> Conference
-    ensures says { λ r. ⌜ Conference-says (now (plan .entry)) a b c r ⌝ }
+// The conference card on a plan that was read with these sizes, or none: the number that comes with them, 14.
+pub fn conference_sized(plan: &[u8], sizes: Sizes, a: u32, b: u32, c: u32) -> Conference
+    requires { ⌜ (sizes .number ≡ 0 → Laid-out (now plan) sizes × Measured (now plan)) ⌝ }
+    ensures says { λ r. ⌜ Conference-is (three-refusal (sizes .number) (plan-cards (now (plan .entry))) a b c) (now (plan .entry)) a b c r ⌝ }
     ensures promise { λ r. ⌜ (r .number ≡ 0 → Card-or-none (now (plan .entry)) a b c r) ⌝ }
 {
-    let sizes = read_plan(plan);
     let number = three_refusal(sizes, a, b, c);
     if number != 0 {
         return no_card(number);
@@ -119,4 +119,12 @@ pub fn conference_card(plan: &[u8], a: u32, b: u32, c: u32) -> Conference
         found: 1,
         card: card,
     }
+}
+
+// The card that is on a shortest path between each two of three cards, or none: 12, 13, 14.
+pub fn conference_card(plan: &[u8], a: u32, b: u32, c: u32) -> Conference
+    ensures says { λ r. ⌜ Conference-says (now (plan .entry)) a b c r ⌝ }
+    ensures promise { λ r. ⌜ (r .number ≡ 0 → Card-or-none (now (plan .entry)) a b c r) ⌝ }
+{
+    conference_sized(plan, read_plan(plan), a, b, c)
 }

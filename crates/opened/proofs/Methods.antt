@@ -1,4 +1,4 @@
--- The methods of an opened plan: each hands its bytes, its sizes and its other parameters to a covered function, and returns what that
+-- The methods of an opened plan: each hands its bytes, some of its numbers and its other parameters to a covered function, and returns what that
 -- returns. What the function ensures is then what the method ensures, whatever the other parameters and the result are. Assumes nothing.
 use mathlib.Core.Path.{_≡_}
 use mathlib.Core.List.{List, [], _∷_}
@@ -17,7 +17,7 @@ use ghost.Atoms.{Atoms, sem}
 use contract.Lifetimes.{Lfts, Shares}
 use contract.Monad.{Fun, fact}
 use contract.Running.{Running, GhostRules, givenOf, tables, tablesOf}
-use types.Kit.{Given, ‵, raw, _⊛_, some, later, _$_, _∵_, !, qed, by, move, drop, use1, split, join, pick, show, fsplit, frame, await, updating}
+use types.Kit.{Given, ‵, raw, _⊛_, some, later, _$_, _∵_, !, qed, by, move, drop, use1, split, join, pick, show, fsplit, fjoin, frame, await, updating}
 use types.Kit.{now as at-once, done}
 use denote.RattleType.{RattleType, Denots, Valss, flat, owns}
 use denote.Laws.{Are, Ises, Is, Lawful, Typed, shows, Spells, Tellss, valss}
@@ -36,25 +36,17 @@ use denote.Triple.Walked.{says}
 use Rattle.opened.specs.declared.Opened.{Opened}
 use Rattle.opened.proofs.Opened as T
 use Rattle.opened.proofs.Opened.Laws as T′
-use Rattle.opened.proofs.Held.{bytes-value, Passed-own, taken-apart}
+use Rattle.opened.proofs.Held.{Field, Typed-plan, number-slots, numbers-kept, numbers-given, numbers-valued, others-last, numbers-dropped, bytes-value, Passed-own, taken-apart}
 
--- the machine value of an opened plan is of its type
-abbrev pub Typed-plan : Opened → Type 0
-Typed-plan d = Holds (hasTy (T′.mir (named 0)) (T′.lowered d)) × WT (T′.lowered d)
-
--- what a method's code does: wherever a call of the function on the plan's bytes, its sizes and the other parameters leads to Q, the code
--- leads to K, if Q gives K and a machine value of the result's type
-abbrev pub Takes-apart : {M : Type 1} (𝓤 : URA M) (H : Heap 𝓤) (run call : Fun 𝓤) (d : Opened) (others : List Val) (R : RattleType) → Type 2
-Takes-apart 𝓤 H run call d others R =
+-- what a method's code does: wherever a call of the function on what it is passed leads to Q, the code leads to K, if Q gives K and a
+-- machine value of the result's type
+abbrev pub Takes-apart : {M : Type 1} (𝓤 : URA M) (H : Heap 𝓤) (run call : Fun 𝓤) (d : Opened) (passed others : List Val) (R : RattleType) → Type 2
+Takes-apart 𝓤 H run call d passed others R =
     (Q K : Val → SProp 𝓤) → ((u : Val) → ent 𝓤 (Q u) (H .⇛ (sep 𝓤 (K u) (fact 𝓤 (Typed (R .mir) (u ∷ []))))))
-    → ent 𝓤 (call (bytes-value d ∷ vint w32 (d .cards) ∷ vint w32 (d .links) ∷ vint w32 (d .columns) ∷ others) Q) (run (T′.lowered d ∷ others) K)
+    → ent 𝓤 (call passed Q) (run (T′.lowered d ∷ others) K)
 
--- a parameter that is a number
-abbrev pub number-slot : {n : ℕ} → Slot n
-number-slot = plain (λ _. u32)
-
--- the signatures of a method and of the function that it calls, by their other parameters and their result
-module _ (m : ℕ) (ss : List (Slot (suc m))) (ks : Kepts ss) (res : Slot (suc m)) where
+-- the signatures of a method and of the function that it calls, by the plan's numbers that are passed, the other parameters and the result
+module _ (fs : List Field) (m : ℕ) (ss : List (Slot (suc m))) (ks : Kepts ss) (res : Slot (suc m)) where
   abbrev pub Method : Ended
   Method =
       record {
@@ -69,18 +61,25 @@ module _ (m : ℕ) (ss : List (Slot (suc m))) (ks : Kepts ss) (res : Slot (suc m
             record {
               lifetimes = suc m;
               outlives = [];
-              params = SliceRefOf (0 ∷ []) tt (plain (λ _. u8)) (λ _. tt) ∷ number-slot ∷ number-slot ∷ number-slot ∷ ss;
+              params = SliceRefOf (0 ∷ []) tt (plain (λ _. u8)) (λ _. tt) ∷ number-slots fs ss;
               result = res;
             };
-        kept = (yes, (yes, (yes, (yes, ks))));
+        kept = (yes, numbers-kept ss fs ks);
       }
 
   -- what the function is passed
   abbrev pub called-args : (κs : Lfts (suc m)) → Args (Method .signature) κs → Args (Called .signature) κs
-  called-args κs a = let d = a .0 in (d .bytes, (d .cards, (d .links, (d .columns, a .1))))
+  called-args κs a = let d = a .0 in (d .bytes, numbers-given ss κs d fs (a .1))
 
   abbrev pub called-values : (κs : Lfts (suc m)) → Opened → Valss (typesAt ss κs) → Vals (Called .signature) κs
-  called-values κs d at = (bytes-value d ∷ [], (vint w32 (d .cards) ∷ [], (vint w32 (d .links) ∷ [], (vint w32 (d .columns) ∷ [], at))))
+  called-values κs d at = (bytes-value d ∷ [], numbers-valued ss κs d fs at)
+
+  abbrev pub passed-values : (κs : Lfts (suc m)) → Opened → Valss (typesAt ss κs) → List Val
+  passed-values κs d at = flat (typesAt (Called .signature .params) κs) (called-values κs d at)
+
+  -- of the function's last values, those of the method
+  abbrev pub method-last : (κs : Lfts (suc m)) (a : Args (Method .signature) κs) → Lasts Called κs (called-args κs a) → Lasts Method κs a
+  method-last κs a ws = (tt, others-last ss κs (a .0) fs ks (a .1) (ws .1))
 
   module _ {M : Type 1} (𝓤 : URA M) (H : Heap 𝓤) (A : Atoms 𝓤) (W : Given 𝓤 H A) (method : Clauses 𝓤 Method) (called : Clauses 𝓤 Called) where
     -- the contracts as triples
@@ -96,9 +95,9 @@ module _ (m : ℕ) (ss : List (Slot (suc m))) (ks : Kepts ss) (res : Slot (suc m
       pub asks : (κs : Lfts (suc m)) (a : Args (Method .signature) κs) (g : method κs a .ghost)
           → ent 𝓤 (emp 𝓤) (called κs (called-args κs a) .requires (ghost κs a g))
       pub claims : (κs : Lfts (suc m)) (a : Args (Method .signature) κs) (g : method κs a .ghost) (r : Res (Method .signature) κs)
-          (ws : Fins κs ss ks (a .1))
-          → ent 𝓤 (called κs (called-args κs a) .ensures (ghost κs a g) r (atExit Called κs (called-args κs a) (tt, (tt, (tt, (tt, ws))))))
-          (method κs a .ensures g r (atExit Method κs a (tt, ws)))
+          (ws : Lasts Called κs (called-args κs a))
+          → ent 𝓤 (called κs (called-args κs a) .ensures (ghost κs a g) r (atExit Called κs (called-args κs a) ws))
+          (method κs a .ensures g r (atExit Method κs a (method-last κs a ws)))
 
     -- of one call: lifetimes, parameters, and the machine values of the other parameters
     module _ (agrees : Agrees) (κs : Lfts (suc m)) (qs : Shares (suc m)) (d : Opened) (others : Denots (typesAt ss κs))
@@ -115,9 +114,6 @@ module _ (m : ℕ) (ss : List (Slot (suc m))) (ks : Kepts ss) (res : Slot (suc m
       abbrev Alive : SProp 𝓤
       Alive = alive 𝓤 H A (Method .signature) κs qs
 
-      abbrev Others : Fml
-      Others = owns (typesAt ss κs) others at
-
       -- what is said at exit, of a result and of the last values
       abbrev Method-says : R .Denot → Lasts Method κs (d, others) → SProp 𝓤
       Method-says r ws = sep 𝓤 (sem 𝓤 H A (lasts Method κs (d, others) ws)) (method κs (d, others) .ensures g r (atExit Method κs (d, others) ws))
@@ -128,19 +124,21 @@ module _ (m : ℕ) (ss : List (Slot (suc m))) (ks : Kepts ss) (res : Slot (suc m
           (called κs (called-args κs (d, others)) .ensures (agrees .ghost κs (d, others) g) r (atExit Called κs (called-args κs (d, others)) ws))
 
       -- what the method is entered with gives what the function asks
-      asked : d .cards < 2 ^ 32 → d .links < 2 ^ 32 → d .columns < 2 ^ 32
+      asked : Typed-plan d
           → ent 𝓤 (onEntry 𝓤 H A (Method .signature) κs qs (d, others) (T′.lowered d ∷ [], at)) (Called-triple .pre of-called)
-      asked cards links columns =
+      asked wt =
           qed W (raw Alive ∷ ‵ (owns (typesAt (Method .signature .params) κs) (d, others) (T′.lowered d ∷ [], at)) ∷ []) ∵ move ! (1 ∷ []) $
-          use1 W (‵ (Passed-own 𝓤 H A W (κs .0) d Others)) (taken-apart 𝓤 H A W (κs .0) d Others cards links columns) $
+          use1 W (‵ (Passed-own 𝓤 H A W (κs .0) d fs ss κs others at)) (taken-apart 𝓤 H A W (κs .0) d fs ss κs others at wt) $
           move ! (1 ∷ 0 ∷ []) $ join ! $ frame ! $ by ! (agrees .asks κs (d, others) g)
 
-      -- of the last values nothing is said of the bytes and the sizes
-      exit-said : (r : R .Denot) (ws : Lasts Called κs (called-args κs (d, others))) → ent 𝓤 (Called-says r ws) (Method-says r (tt, ws .1 .1 .1 .1))
+      -- of the last values nothing is said of the bytes and the numbers
+      exit-said : (r : R .Denot) (ws : Lasts Called κs (called-args κs (d, others)))
+          → ent 𝓤 (Called-says r ws) (Method-says r (method-last κs (d, others) ws))
       exit-said r ws =
           qed W (‵ (lasts Called κs (called-args κs (d, others)) ws)
           ∷ raw (called κs (called-args κs (d, others)) .ensures (agrees .ghost κs (d, others) g) r (atExit Called κs (called-args κs (d, others)) ws)) ∷ []) ∵
-          fsplit ! $ drop ! $ fsplit ! $ drop ! $ fsplit ! $ drop ! $ frame ! $ by ! (agrees .claims κs (d, others) g r (ws .1 .1 .1 .1))
+          fsplit ! $ move ! (1 ∷ []) $ numbers-dropped ss κs d others ! fs ks (ws .1) $ move ! (1 ∷ 0 ∷ []) $ fjoin ! $ frame ! $
+          by ! (agrees .claims κs (d, others) g r ws)
 
       -- what the function answers is what the method is to answer, with a value of the result's type
       module _ (lawful : Lawful 𝓤 H A R) (u : Val) where
@@ -156,9 +154,9 @@ module _ (m : ℕ) (ss : List (Slot (suc m))) (ks : Kepts ss) (res : Slot (suc m
         answers =
             qed W (later (some (λ (r : R .Denot). (raw Alive ⊛ ‵ (R .own r (u ∷ []))) ⊛ some (λ (ws : Lasts Called κs (called-args κs (d, others))).
             raw (Called-says r ws)))) ∷ []) ∵ updating ! $ await ! tt $ at-once ! $ pick ! (λ r. split ! $ move ! (1 ∷ []) $ pick ! (λ ws.
-            use1 W (raw (Method-says r (tt, ws .1 .1 .1 .1))) (exit-said r ws) $ move ! (1 ∷ []) $ split ! $ move ! (1 ∷ []) $
+            use1 W (raw (Method-says r (method-last κs (d, others) ws))) (exit-said r ws) $ move ! (1 ∷ []) $ split ! $ move ! (1 ∷ []) $
             peeks ! R (Is R) (shows 𝓤 H A R) r (u ∷ []) (λ is. says ! (lawful .typed r (u ∷ []) is) $
-            move ! (1 ∷ 0 ∷ []) $ join ! $ by ! (whole r (tt, ws .1 .1 .1 .1)))))
+            move ! (1 ∷ 0 ∷ []) $ join ! $ by ! (whole r (method-last κs (d, others) ws)))))
 
     -- a method's code meets the method's contract if the function meets its own, and the code takes the struct apart for that call
     module _ (agrees : Agrees) (run call : Fun 𝓤) (sp : (κs : Lfts (suc m)) → Spells (typesAt ss κs))
@@ -166,7 +164,7 @@ module _ (m : ℕ) (ss : List (Slot (suc m))) (ks : Kepts ss) (res : Slot (suc m
         (lawful : (κs : Lfts (suc m)) → Lawful 𝓤 H A (typeAt res κs))
         (code : (κs : Lfts (suc m)) (d : Opened) (others : Denots (typesAt ss κs)) → Typed-plan d
         → Are (typesAt ss κs) (Ises (typesAt ss κs)) others (valss (typesAt ss κs) (sp κs) others)
-        → Takes-apart 𝓤 H run call d (flat (typesAt ss κs) (valss (typesAt ss κs) (sp κs) others)) (typeAt res κs)) where
+        → Takes-apart 𝓤 H run call d (passed-values κs d (valss (typesAt ss κs) (sp κs) others)) (flat (typesAt ss κs) (valss (typesAt ss κs) (sp κs) others)) (typeAt res κs)) where
       code-meets : Triple 𝓤 call Called-triple → Triple 𝓤 run Method-triple
       code-meets known y =
           let κs = y .0 .0 in
@@ -181,7 +179,7 @@ module _ (m : ℕ) (ss : List (Slot (suc m))) (ks : Kepts ss) (res : Slot (suc m
           let wt = LL.lawful D L 𝓤 H A W .typed (a .0) _ (are .0) .0 in
           let at = valss (typesAt ss κs) (sp κs) (a .1) in
           via 𝓤 (Called-triple .pre (of-called agrees κs qs (a .0) (a .1) at (y .1)))
-          (asked agrees κs qs (a .0) (a .1) at (y .1) (wt .1 .1 .0 .fits) (wt .1 .1 .1 .0 .fits) (wt .1 .1 .1 .1 .0 .fits))
+          (asked agrees κs qs (a .0) (a .1) at (y .1) wt)
           (via 𝓤 _ (known (of-called agrees κs qs (a .0) (a .1) at (y .1)))
           (code κs (a .0) (a .1) wt (are .1) _ _ (answers agrees κs qs (a .0) (a .1) at (y .1) (lawful κs))))))
 
@@ -196,7 +194,7 @@ module _ (m : ℕ) (ss : List (Slot (suc m))) (ks : Kepts ss) (res : Slot (suc m
         → ((C : Calls 𝓤 H) (Λ : Loops 𝓤 H) → FmC 𝓤 H (givenOf 𝓤 H 𝓜 𝓖 .laws) C
         → (κs : Lfts (suc m)) (d : Opened) (others : Denots (typesAt ss κs)) → Typed-plan d
         → Are (typesAt ss κs) (Ises (typesAt ss κs)) others (valss (typesAt ss κs) (sp κs) others)
-        → Takes-apart 𝓤 H (WpFn 𝓤 H C Λ function) (C callee) d (flat (typesAt ss κs) (valss (typesAt ss κs) (sp κs) others)) (typeAt res κs))
+        → Takes-apart 𝓤 H (WpFn 𝓤 H C Λ function) (C callee) d (passed-values κs d (valss (typesAt ss κs) (sp κs) others)) (flat (typesAt ss κs) (valss (typesAt ss κs) (sp κs) others)) (typeAt res κs))
         → Triple 𝓤 (tables 𝓤 H 𝓜 𝓡 γ .C key) (Method-triple 𝓤 H (𝓖 .A) (givenOf 𝓤 H 𝓜 𝓖) method called)
     unfolding tablesOf
     method-meets sp tl lawful code =

@@ -12,7 +12,7 @@ use Rattle.rack.proofs.Logic.{and-left, and-right, not-true-false, by-bool}
 use Rattle.rack.specs.PlanFile.{plan-cards, plan-links, plan-columns}
 use Rattle.reader.specs.Plan.{layout-holds, plan-refusal}
 use Rattle.reader.specs.Promises.{Refused-address-empty, No-such-card}
-use Rattle.reader.specs.Reading.{layout-refusal, address-part, address-refusal}
+use Rattle.reader.specs.Reading.{layout-refusal, card-refusal, part-unless, address-part, address-refusal}
 use Rattle.reader.proofs.Promises.{read-measured, refused-address-empty, no-such-card}
 use Rattle.forwarder.specs.Calls.{step-refusal}
 use Rattle.crossing.specs.Crossing.{Frame-step-says}
@@ -27,7 +27,7 @@ use Rattle.opened.proofs.Carrying.{carried-bytes-whole, carried-bytes-n
 
 -- NO BYTES are 12 in every call
 no-bytes-twelve : Twelve-in-every-call []
-unfolding plan-refusal layout-refusal layout-holds address-refusal address-part step-refusal caller-refusal caller-walk-refusal conference-refusal three-refusal
+unfolding plan-refusal layout-refusal layout-holds card-refusal part-unless address-refusal step-refusal caller-refusal caller-walk-refusal conference-refusal three-refusal
 no-bytes-twelve =
     record {
       read = refl;

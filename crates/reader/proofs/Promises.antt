@@ -1,7 +1,6 @@
 -- The promises of specs/Promises.antt, proved. Assumes nothing.
 use mathlib.Core.Path.{_≡_, refl, sym, ap, _∙_, subst}
 use mathlib.Core.Bool.{true, false}
-use mathlib.Core.Logic.{_≢_}
 use mathlib.Core.List.{List}
 use Prim.Native.Nat.{ℕ, _+_, _*_, _-_, _/_, _%_, _≤_, _<_}
 use native.Mathlib.Nat.{mul-le-mul}
@@ -32,10 +31,10 @@ use Rattle.rack.proofs.PlanFile.{address-size-is}
 use Rattle.reader.specs.Plan.{plan-refusal}
 use Rattle.reader.specs.Promises.{Read-exactly, Calls-agree, Layout-in-range, Address-fits, Measured, Reader-promise, Refused-address-empty}
 use Rattle.reader.specs.Promises.{No-such-card, Largest-plan, Address-whole}
-use Rattle.reader.specs.Reading.{Read-says, bit-from, address-refusal, address-part}
+use Rattle.reader.specs.Reading.{Read-says, bit-from, card-refusal, address-refusal, address-part}
 use Rattle.reader.specs.declared.layout.Sizes.{Sizes}
 use Rattle.reader.proofs.Plan.{Layout, layout-of, layout-facts, facts-layout, plan-clear, plan-read, accepted-fits, accepted-columns-fit, layout-head, plan-refusal-most}
-use Rattle.reader.proofs.AddressPart.{plan-refused, card-refused, card-clear, clear-card, refused-part, clear-part}
+use Rattle.reader.proofs.AddressPart.{refused-before, card-outside, card-inside, clear-card, refused-part, clear-part}
 use Rattle.reader.proofs.Addresses.{address-counted}
 use Rattle.reader.proofs.Parts.{length-part}
 
@@ -145,46 +144,48 @@ module _ (ps : List ℕ) (c : ℕ) (e : address-refusal ps c ≡ 0) where
   abbrev start : ℕ
   start = address-start ps c
 
-  was-read : plan-refusal ps ≡ 0
-  was-read = clear-card ps c e .0
+  card-read : (plan-refusal ps ≡ 0) × (c < plan-cards ps)
+  unfolding address-refusal
+  card-read = clear-card (plan-refusal ps) (plan-cards ps) c e
 
   handed-size : length (address-part ps c) ≡ size
   handed-size =
-      let z = address-counted ps _ (layout-facts ps (plan-clear ps was-read .0)) c size start (clear-card ps c e .1) refl refl in
-      ap length (clear-part ps c e .1) ∙ length-part start size ps (z .1)
+      let z = address-counted ps _ (layout-facts ps (plan-clear ps (card-read .0) .0)) c size start (card-read .1) refl refl in
+      ap length (clear-part ps c (address-refusal ps c) e .1) ∙ length-part start size ps (z .1)
 
   handed-bit : (j : ℕ) → j < 8 * size → bit-from (address-part ps c) 0 j ≡ plan-bit ps c j
   unfolding bit-from plan-bit
   handed-bit j l =
       ap (λ (byte : ℕ). number-bit byte (j % 8))
-      (ap (λ (bs : List ℕ). getD bs (0 + j / 8) 0) (clear-part ps c e .1) ∙ getD-take size (drop start ps) (0 + j / 8) 0 (omega arith)
+      (ap (λ (bs : List ℕ). getD bs (0 + j / 8) 0) (clear-part ps c (address-refusal ps c) e .1) ∙ getD-take size (drop start ps) (0 + j / 8) 0 (omega arith)
       ∙ getD-drop start ps (0 + j / 8) 0 ∙ ap (λ (i : ℕ). getD ps i 0) (omega arith))
 
 pub address-whole : Address-whole
 unfolding Address-whole
 address-whole ps c e =
-    let h = was-read ps c e in
+    let (h, inside) = card-read ps c e in
     let k = read-columns ps h in
     let n = wiring-at-cards 6 ps in (
       handed-size ps c e,
-      (λ j l. handed-bit ps c e j l ∙ read-byte-bit ps h c j (omega (arith, clear-card ps c e .1)) (rw (← k) (omega arith))),
+      (λ j l. handed-bit ps c e j l ∙ read-byte-bit ps h c j (omega arith) (rw (← k) (omega arith))),
       λ j l. past-columns (plan-wiring ps) c j (omega arith),
     )
 
 pub refused-address-empty : Refused-address-empty
 unfolding Refused-address-empty
-refused-address-empty ps c n = refused-part ps c n .1
+refused-address-empty ps c n = refused-part ps c (address-refusal ps c) n .1
 
 pub no-such-card : No-such-card
-unfolding No-such-card
-no-such-card ps c = (outside, λ z. card-refused ps c (z .0) (z .1))
+unfolding No-such-card address-refusal
+no-such-card ps c = (outside, λ (e, h). card-outside (plan-refusal ps) (plan-cards ps) c e h)
   where
-    outside : address-refusal ps c ≡ 14 → (plan-refusal ps ≡ 0) × (plan-cards ps ≤ c)
+    outside : card-refusal (plan-refusal ps) (plan-cards ps) c ≡ 14 → (plan-refusal ps ≡ 0) × (plan-cards ps ≤ c)
     outside h =
-        by-eq (plan-refusal ps) 0
-        (λ (e : plan-refusal ps ≡ 0).
-        (e, by-lt c (plan-cards ps) (λ (l : c < plan-cards ps). absurd (omega (arith, h, card-clear ps c e l))) (λ (l : plan-cards ps ≤ c). l)))
-        (λ (n : plan-refusal ps ≢ 0). absurd (omega (arith, h, plan-refused ps c n, plan-refusal-most ps)))
+        let x = plan-refusal ps in
+        let n = plan-cards ps in
+        by-eq x 0
+        (λ e. (e, by-lt c n (λ l. absurd (omega (arith, h, card-inside x n c e l))) (λ l. l)))
+        (λ d. absurd (omega (arith, h, refused-before x n c d, plan-refusal-most ps)))
 
 written-read : (bs : List ℕ) → file-refusal bs .number ≡ 0 → (plan-refusal (plan-bytes (file-wiring bs)) ≡ 0) × (plan-wiring (plan-bytes (file-wiring bs)) ≡ file-wiring bs)
 written-read bs h =

@@ -49,17 +49,27 @@ Layout-says ps r = Sizes-say ps (layout-refusal ps) r
 abbrev pub Read-says : List ℕ → Sizes → Type 0
 Read-says ps r = Sizes-say ps (plan-refusal ps) r
 
--- a card's address as a part of the plan's bytes: 12, 13, 14; empty with a refusal
-unfoldable pub address-refusal : List ℕ → (card : ℕ) → ℕ
-address-refusal ps c = cond (eqb (plan-refusal ps) 0) (cond (leb (plan-cards ps) c) 14 0) (plan-refusal ps)
+-- a refusal that comes before it, then 14: the card number is n or more
+unfoldable pub card-refusal : (before n : ℕ) → (card : ℕ) → ℕ
+card-refusal x n c = cond (eqb x 0) (cond (leb n c) 14 0) x
 
-unfoldable pub address-part : List ℕ → (card : ℕ) → List ℕ
-address-part ps c = cond (eqb (address-refusal ps c) 0) (take (address-size (plan-columns ps)) (drop (address-start ps c) ps)) []
+-- a card's address as a part of the plan's bytes, and how far behind the first of them it begins; with a refusal none, from the first on
+unfoldable pub part-unless : (refused : ℕ) → List ℕ → (card : ℕ) → List ℕ
+part-unless x ps c = cond (eqb x 0) (take (address-size (plan-columns ps)) (drop (address-start ps c) ps)) []
 
--- how far behind the plan's first byte that part begins; with a refusal nothing is handed out, from the plan's first byte on
-unfoldable pub address-offset : List ℕ → (card : ℕ) → ℕ
-address-offset ps c = cond (eqb (address-refusal ps c) 0) (address-start ps c) 0
+unfoldable pub offset-unless : (refused : ℕ) → List ℕ → (card : ℕ) → ℕ
+offset-unless x ps c = cond (eqb x 0) (address-start ps c) 0
 
 -- "A card's address is handed out as that part of the plan's own bytes" (docs/REQUIREMENTS.md): of those of a plan that begins at this place
+abbrev pub Part-is : (refused : ℕ) (ps : List ℕ) (at : ℕ × ℕ) (card : ℕ) → RefT (List ℕ) → Type 0
+Part-is x ps at c r = Slice-is (at .0, offset-unless x ps c + at .1) (part-unless x ps c) r
+
+-- 12, 13, 14
+unfoldable pub address-refusal : List ℕ → (card : ℕ) → ℕ
+address-refusal ps c = card-refusal (plan-refusal ps) (plan-cards ps) c
+
+abbrev pub address-part : List ℕ → (card : ℕ) → List ℕ
+address-part ps c = part-unless (address-refusal ps c) ps c
+
 abbrev pub Address-says : (ps : List ℕ) (at : ℕ × ℕ) (card : ℕ) → RefT (List ℕ) → Type 0
-Address-says ps at c r = Slice-is (at .0, address-offset ps c + at .1) (address-part ps c) r
+Address-says ps at c r = Part-is (address-refusal ps c) ps at c r

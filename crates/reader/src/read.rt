@@ -8,10 +8,10 @@ ghost use lib.ListN.{length, take, drop, replicate};
 ghost use Rattle.rack.specs.Lists.{same};
 ghost use Rattle.rack.specs.Buffers.{Appends};
 ghost use Rattle.rack.specs.Limits.{most-links};
-ghost use Rattle.rack.specs.PlanFile.{plan-links};
+ghost use Rattle.rack.specs.PlanFile.{plan-cards, plan-links};
 ghost use Rattle.reader.specs.Plan.{content-holds, layout-holds};
 ghost use Rattle.reader.specs.Promises.{Measured};
-ghost use Rattle.reader.specs.Reading.{Read-says, Address-says, address-refusal};
+ghost use Rattle.reader.specs.Reading.{Read-says, Laid-out, Part-is, card-refusal, Address-says, address-refusal};
 use crate::layout::Sizes;
 use crate::layout::no_sizes;
 use crate::layout::plan_layout;
@@ -91,12 +91,13 @@ pub fn read_plan(plan: &[u8]) -> Sizes
     no_sizes(13)
 }
 
-// A card's address, as that part of the plan's own bytes; empty with a refusal: 12, 13, 14, with its number in `number`.
-pub fn card_address<'a>(plan: &'a [u8], card: u32, number: &mut u32) -> &'a [u8]
-    ensures part { λ r. ⌜ Address-says (now (plan .entry)) (plan .entry .ptr) card r ⌝ }
-    ensures refusal { λ r. ⌜ now (number .exit) ≡ address-refusal (now (plan .entry)) card ⌝ }
+// A card's address in a plan whose sizes are known, as that part of the plan's own bytes; empty with a refusal, whose number goes into
+// `number`: the one that comes with the sizes, or 14.
+pub fn address_sized<'a>(plan: &'a [u8], sizes: Sizes, card: u32, number: &mut u32) -> &'a [u8]
+    requires { ⌜ (sizes .number ≡ 0 → Laid-out (now plan) sizes) ⌝ }
+    ensures part { λ r. ⌜ Part-is (card-refusal (sizes .number) (plan-cards (now (plan .entry))) card) (now (plan .entry)) (plan .entry .ptr) card r ⌝ }
+    ensures refusal { λ r. ⌜ now (number .exit) ≡ card-refusal (sizes .number) (plan-cards (now (plan .entry))) card ⌝ }
 {
-    let sizes = read_plan(plan);
     *number = sizes.number;
     if sizes.number != 0 {
         return &plan[0..0];
@@ -108,4 +109,12 @@ pub fn card_address<'a>(plan: &'a [u8], card: u32, number: &mut u32) -> &'a [u8]
     let size = address_size(sizes.columns as usize);
     let start = address_start(sizes.links as usize, size, card as usize);
     &plan[start..start + size]
+}
+
+// A card's address, as that part of the plan's own bytes; empty with a refusal: 12, 13, 14, with its number in `number`.
+pub fn card_address<'a>(plan: &'a [u8], card: u32, number: &mut u32) -> &'a [u8]
+    ensures part { λ r. ⌜ Address-says (now (plan .entry)) (plan .entry .ptr) card r ⌝ }
+    ensures refusal { λ r. ⌜ now (number .exit) ≡ address-refusal (now (plan .entry)) card ⌝ }
+{
+    address_sized(plan, read_plan(plan), card, number)
 }

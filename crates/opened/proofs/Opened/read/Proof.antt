@@ -21,8 +21,8 @@ use denote.Struct.Laws as LL
 use denote.Triple.Call.{calls-from}
 use Rattle.opened.specs.declared.Opened.{Opened}
 use Rattle.opened.proofs.Opened.Laws as T′
-use Rattle.opened.proofs.Held.{bytes-value}
-use Rattle.opened.proofs.Methods.{Typed-plan, Takes-apart, method-meets}
+use Rattle.opened.proofs.Held.{Typed-plan, sizes, bytes-value}
+use Rattle.opened.proofs.Methods.{Takes-apart, method-meets}
 use Rattle.reader.proofs.layout.Sizes as Y
 use Rattle.reader.proofs.layout.Sizes.Laws as Y′
 use Rattle.opened.proofs.carried.read_carried as callee
@@ -41,7 +41,7 @@ module _ {M : Type 1} (𝓤 : URA M) (H : Heap 𝓤) (A : Atoms 𝓤) (W : Given
   passed = bytes-value d ∷ vint w32 (d .cards) ∷ vint w32 (d .links) ∷ vint w32 (d .columns) ∷ []
 
   walk : Typed-plan d
-      → Takes-apart 𝓤 H (WpFn 𝓤 H C Λ code.function) (C #opened·carried·read-carried) d [] Y.the-row
+      → Takes-apart 𝓤 H (WpFn 𝓤 H C Λ code.function) (C #opened·carried·read-carried) d passed [] Y.the-row
   walk wt Q K h =
       qed W (raw (C #opened·carried·read-carried passed Q) ∷ []) ∵
       enter ! C Λ code.function (T′.lowered d ∷ []) K $
@@ -70,7 +70,7 @@ module _ {M : Type 1} (𝓤 : URA M) (H : Heap 𝓤) (A : Atoms 𝓤) (W : Given
 pub read-spec : {M : Type 1} → stated.statement M
 unfolding code.routine tablesOf
 read-spec 𝓤 H 𝓜 𝓖 𝓡 =
-    method-meets 0 [] tt (this.signature .result) 𝓤 H 𝓜 𝓖 𝓡
+    method-meets sizes 0 [] tt (this.signature .result) 𝓤 H 𝓜 𝓖 𝓡
     (this.clauses 𝓤 H (𝓖 .A) (𝓜 .mem) (𝓡 .run)) (callee.clauses 𝓤 H (𝓖 .A) (𝓜 .mem) (𝓡 .run))
     (record { ghost = λ κs a g. tt; asks = λ κs a g. id⊢ 𝓤 _; claims = λ κs a g r ws. id⊢ 𝓤 _ })
     code.env #opened·Opened·read code.function (code.unfolded 𝓤 H 𝓜 𝓡)

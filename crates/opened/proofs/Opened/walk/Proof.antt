@@ -29,8 +29,8 @@ use denote.Struct.Laws as LL
 use denote.Triple.Call.{calls-from}
 use Rattle.opened.specs.declared.Opened.{Opened}
 use Rattle.opened.proofs.Opened.Laws as T′
-use Rattle.opened.proofs.Held.{bytes-value}
-use Rattle.opened.proofs.Methods.{number-slot, Typed-plan, Takes-apart, method-meets}
+use Rattle.opened.proofs.Held.{Typed-plan, number-slot, sizes, bytes-value}
+use Rattle.opened.proofs.Methods.{Takes-apart, method-meets}
 use Rattle.callers.proofs.CallerWalk as Y
 use Rattle.callers.proofs.CallerWalk.Laws as Y′
 use Rattle.traffic.specs.declared.Traffic.{Traffic}
@@ -55,7 +55,7 @@ module _ {M : Type 1} (𝓤 : URA M) (H : Heap 𝓤) (A : Atoms 𝓤) (W : Given
   passed = bytes-value d ∷ vint w32 (d .cards) ∷ vint w32 (d .links) ∷ vint w32 (d .columns) ∷ others
 
   walk : Typed-plan d → origin < 2 ^ 32 → goal < 2 ^ 32 → caller < 2 ^ 32 → Is X.the-row traffic (counts ∷ []) → Room u16 (length ys)
-      → Takes-apart 𝓤 H (WpFn 𝓤 H C Λ code.function) (C #opened·carried·walk-carried) d others Y.the-row
+      → Takes-apart 𝓤 H (WpFn 𝓤 H C Λ code.function) (C #opened·carried·walk-carried) d passed others Y.the-row
   walk wt ok₀ ok₁ ok₂ ok₃ room Q K h =
       qed W (raw (C #opened·carried·walk-carried passed Q) ∷ []) ∵
       enter ! C Λ code.function (T′.lowered d ∷ others) K $
@@ -99,7 +99,7 @@ module _ {M : Type 1} (𝓤 : URA M) (H : Heap 𝓤) (A : Atoms 𝓤) (W : Given
 pub walk-spec : {M : Type 1} → stated.statement M
 unfolding code.routine tablesOf
 walk-spec 𝓤 H 𝓜 𝓖 𝓡 =
-    method-meets 1 (number-slot ∷ number-slot ∷ number-slot ∷ plain (λ _. X.the-row) ∷ SliceRefMutOf (1 ∷ []) tt (plain (λ _. u16)) (λ _. tt) ∷ [])
+    method-meets sizes 1 (number-slot ∷ number-slot ∷ number-slot ∷ plain (λ _. X.the-row) ∷ SliceRefMutOf (1 ∷ []) tt (plain (λ _. u16)) (λ _. tt) ∷ [])
     (yes, (yes, (yes, (yes, (yes, tt))))) (this.signature .result) 𝓤 H 𝓜 𝓖 𝓡
     (this.clauses 𝓤 H (𝓖 .A) (𝓜 .mem) (𝓡 .run)) (callee.clauses 𝓤 H (𝓖 .A) (𝓜 .mem) (𝓡 .run))
     (record { ghost = λ κs a g. tt; asks = λ κs a g. id⊢ 𝓤 _; claims = λ κs a g r ws. id⊢ 𝓤 _ })
