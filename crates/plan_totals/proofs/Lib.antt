@@ -1,0 +1,3 @@
+pub mod Summing
+pub mod Refusals
+pub mod Answers
