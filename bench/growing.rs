@@ -1,8 +1,8 @@
 //! Racks of 255 cards that get one more, which is taken off again: what bench/last_cards.rs times and tests/cost.rs counts.
 
-use crate::last_card::{add_card, take_card_off};
+use crate::last_card::{add_card, take_card_off, Changed};
 use crate::racks::{self, Rack, Rng};
-use crate::second::planner::plan;
+use crate::second::last_card::{summed_plan, SummedPlan};
 use crate::second::{MOST_CARDS, PLAN_BYTES};
 
 const SEED: u64 = 7;
@@ -11,29 +11,35 @@ const CARDS: usize = MOST_CARDS - 1;
 
 pub type Output = [u8; PLAN_BYTES];
 
-/// The plans of a rack and of the same with one more card, and the card on which that hangs.
+/// The plans of a rack and of the same with one more card, with their sums of hops, and the card on which that hangs.
 pub struct Growing {
     pub name: &'static str,
-    pub less: Vec<u8>,
-    pub more: Vec<u8>,
+    pub less: SummedPlan,
+    pub more: SummedPlan,
     card: usize,
 }
 
 impl Growing {
-    /// The number, and the new plan's length.
-    pub fn add(&self, output: &mut Output) -> (u32, usize) {
-        add_card(&self.less, self.card as u32, output)
+    pub fn add(&self, output: &mut Output) -> Changed {
+        add_card(&self.less.file, self.less.total, self.card as u32, output)
     }
 
-    pub fn take_off(&self, output: &mut Output) -> (u32, usize) {
-        take_card_off(&self.more, output)
+    pub fn take_off(&self, output: &mut Output) -> Changed {
+        take_card_off(&self.more.file, self.more.total, output)
     }
 }
 
-/// Adding on the card behind the last is refused with 14: it reads the plan and does no more.
-pub fn refused(plan: &[u8], output: &mut Output) -> (u32, usize) {
-    let cards = u16::from_le_bytes([plan[0], plan[1]]);
-    add_card(plan, u32::from(cards), output)
+/// Adding on the card behind the last is refused with 14: it reads the plan, tests its sum and does no more.
+pub fn refused(plan: &SummedPlan, output: &mut Output) -> Changed {
+    let cards = u16::from_le_bytes([plan.file[0], plan.file[1]]);
+    add_card(&plan.file, plan.total, u32::from(cards), output)
+}
+
+/// The new plan is that, with its length and its sum.
+pub fn check(name: &str, (number, answer): Changed, output: &Output, new: &SummedPlan) {
+    let length = new.file.len();
+    assert_eq!((number, answer), (0, [length as u32, new.total]), "{name}");
+    assert_eq!(output[..length], new.file, "{name}");
 }
 
 /// As many links as a rack of 255 cards can have.
@@ -64,8 +70,8 @@ fn growing(name: &'static str, rack: Rack, card: usize) -> Growing {
     let mut grown = rack.clone();
     grown.links.push((card, rack.cards));
     grown.cards += 1;
-    let [less, more] = [rack, grown].map(|rack| match plan(&rack.bytes()) {
-        Ok(planned) => planned.bytes(),
+    let [less, more] = [rack, grown].map(|rack| match summed_plan(&rack.bytes()) {
+        Ok(planned) => planned,
         Err(_) => panic!("{name} is refused"),
     });
     Growing {

@@ -1,7 +1,8 @@
-//! Times adding a card to racks of 255, and taking it off again, beside adding that is refused with 14, which reads the plan and does
-//! no more.
+//! Times adding a card to racks of 255, and taking it off again, beside reading the same plans without their sums.
 
-use crate::growing::{self, refused, Growing, Output};
+use crate::growing::{self, check, Growing, Output};
+use crate::last_card::Changed;
+use crate::openings::read_alone;
 use crate::second::PLAN_BYTES;
 use std::hint::black_box;
 use std::time::Instant;
@@ -23,34 +24,34 @@ fn print_rack(growing: &Growing) {
         name, less, more, ..
     } = growing;
     let output = &mut [0; PLAN_BYTES];
-    let (number, length) = growing.add(output);
-    assert_eq!((number, &output[..length]), (0, &more[..]), "{name}");
-    let (number, length) = growing.take_off(output);
-    assert_eq!((number, &output[..length]), (0, &less[..]), "{name}");
-    let adding = times(less, |output| growing.add(output));
-    let taking_off = times(more, |output| growing.take_off(output));
-    let links = u16::from_le_bytes([less[2], less[3]]);
+    let added = growing.add(output);
+    check(name, added, output, more);
+    let taken_off = growing.take_off(output);
+    check(name, taken_off, output, less);
+    let adding = times(&less.file, |output| growing.add(output));
+    let taking_off = times(&more.file, |output| growing.take_off(output));
+    let links = u16::from_le_bytes([less.file[2], less.file[3]]);
     let [adding, taking_off] = [adding, taking_off]
         .map(|[read, made]| format!("{read:.2} | {made:.2} | {:.3}", made / read));
     println!(
         "| {name} | {links} | {} | {adding} | {taking_off} |",
-        less[4]
+        less.file[4]
     );
 }
 
 /// The best times of reading a plan and of a call on it, taken in turn.
-fn times(plan: &[u8], call: impl Fn(&mut Output) -> (u32, usize)) -> [f64; 2] {
+fn times(plan: &[u8], call: impl Fn(&mut Output) -> Changed) -> [f64; 2] {
     let output = &mut [0; PLAN_BYTES];
-    assert_eq!(refused(plan, output), (14, 0));
+    assert_eq!(read_alone(plan), [14, 0, 0]);
     let mut best = [f64::INFINITY; 2];
     for _ in 0..SAMPLES {
-        best[0] = best[0].min(microseconds(|| refused(black_box(plan), output)));
+        best[0] = best[0].min(microseconds(|| read_alone(black_box(plan))));
         best[1] = best[1].min(microseconds(|| call(output)));
     }
     best
 }
 
-fn microseconds(call: impl FnOnce() -> (u32, usize)) -> f64 {
+fn microseconds<T>(call: impl FnOnce() -> T) -> f64 {
     let start = Instant::now();
     black_box(call());
     start.elapsed().as_secs_f64() * 1e6

@@ -1,10 +1,13 @@
-//! Counts the instructions of the C calls, of steps and walks with their columns, of conferences, and of a card more or less, on what
-//! the benchmark times.
+//! Counts the instructions of the C calls, of steps and walks with their columns, of conferences, of opening, and of a card more or less,
+//! on what the benchmark times.
 //! `cost` makes the calls, for callgrind to count.
 //! `cost FOLDER LIMITS` reads what was counted and holds it to a table of limits; with `--set` it writes the table.
 
 mod calls;
+#[allow(dead_code)]
+mod carried;
 mod conference;
+mod cost_counts;
 mod cost_table;
 mod crossing;
 #[path = "../bench/growing.rs"]
@@ -13,22 +16,27 @@ mod last_card;
 #[allow(dead_code)]
 #[path = "../bench/measured.rs"]
 mod measured;
+mod opening;
 #[allow(dead_code)]
 mod racks;
 #[allow(dead_code)]
 mod second;
 
-use cost_table::{check, set, Row, COLUMNS};
+use carried::Opened;
+use cost_counts::read_counts;
+use cost_table::{check, set};
 use growing::{Growing, Output};
+use last_card::Changed;
 use measured::{Frame, Measured};
+use second::last_card::SummedPlan;
 use second::{MET_BYTES, PLAN_BYTES, RECORD_BYTES};
-use std::fs;
 
-/// What a call is made for: the columns of the table, and calls refused with 14, which read the plan and do no more.
+/// What a call is made for: the columns of the table, and calls that read the plan and do little more, with and without its sum.
 #[derive(Clone, Copy)]
 enum Kind {
     Planning,
     Reading,
+    Opening,
     Step,
     Walk,
     StepFrame,
@@ -38,6 +46,9 @@ enum Kind {
     TakeOff,
     RefusedConference,
     RefusedAdding,
+    ReadCarried,
+    AddressCarried,
+    ConferenceCarried,
 }
 
 impl Kind {
@@ -45,12 +56,16 @@ impl Kind {
         match self {
             Kind::Planning => "jolvente_write_plan",
             Kind::Reading => "jolvente_read_plan",
+            Kind::Opening => "test_read_summed",
             Kind::Step | Kind::Walk => "jolvente_walk",
             Kind::StepFrame => "test_step_frame",
             Kind::WalkFrame => "test_walk_frame",
             Kind::Conference | Kind::RefusedConference => "test_conference_card",
             Kind::AddCard | Kind::RefusedAdding => "test_add_card",
             Kind::TakeOff => "test_take_card_off",
+            Kind::ReadCarried => "test_read_carried",
+            Kind::AddressCarried => "test_address_carried",
+            Kind::ConferenceCarried => "test_conference_carried",
         }
     }
 }
@@ -87,12 +102,14 @@ fn make_calls() -> Made {
             continue;
         };
         read(measured.name, &plan, 0, &mut made);
+        open(measured.name, &plan, &mut made);
         let (steps, walks) = (measured.worst_steps(&plan), measured.longest_walks(&plan));
         walk(Kind::Step, &steps, &mut made);
         walk(Kind::Walk, &walks, &mut made);
         step_frame(&steps, &mut made);
         walk_frame(&walks, &mut made);
         confer(&measured, &plan, &mut made);
+        carry(&measured, &plan, &mut made);
     }
     for steps in [vec![measured::stuck_at_hub()], measured::tangles_in_turn()] {
         walk(Kind::Step, &steps, &mut made);
@@ -114,6 +131,14 @@ fn read(name: &'static str, plan: &[u8], number: u32, made: &mut Made) {
     let code = calls::read_plan(plan, &mut [0; RECORD_BYTES]);
     made.push((name, Kind::Reading));
     assert_eq!(code, number, "reading: {name}");
+}
+
+/// The sum is the second implementation's.
+fn open(name: &'static str, plan: &[u8], made: &mut Made) {
+    let (number, [.., total]) = opening::read_summed(plan);
+    made.push((name, Kind::Opening));
+    let right = second::totals::total_inside(plan);
+    assert_eq!((number, Some(total)), (0, right), "opening: {name}");
 }
 
 fn walk(kind: Kind, frames: &[Frame], made: &mut Made) {
@@ -150,7 +175,7 @@ fn walk_frame(frames: &[Frame], made: &mut Made) {
     }
 }
 
-/// Refused with 14, the call reads the plan and does no more (`check_reading`); so what a conference takes beside reading is
+/// Refused with 14, the call reads the plan and does no more (`cost_counts`); so what a conference takes beside reading is
 /// the difference.
 fn confer(measured: &Measured, plan: &[u8], made: &mut Made) {
     let worst = measured.worst_conference(plan);
@@ -164,72 +189,43 @@ fn confer(measured: &Measured, plan: &[u8], made: &mut Made) {
     }
 }
 
-type Change = fn(&Growing, &mut Output) -> (u32, usize);
-
-/// As of a conference, what the call takes beside reading is the difference.
-fn change(growing: &Growing, kind: Kind, [old, new]: [&[u8]; 2], call: Change, made: &mut Made) {
-    let (name, output) = (growing.name, &mut [0; PLAN_BYTES]);
-    read(name, old, 0, made);
-    made.push((name, Kind::RefusedAdding));
-    assert_eq!(growing::refused(old, output), (14, 0), "refused: {name}");
-    made.push((name, kind));
-    let (number, length) = call(growing, output);
-    assert_eq!((number, &output[..length]), (0, new), "change: {name}");
-}
-
-/// The highest count of each row and kind. Callgrind leaves one file for each call, numbered from 1.
-fn read_counts(folder: &str, made: &[(&str, Kind)]) -> Vec<Row> {
-    let mut rows: Vec<Row> = Vec::new();
-    let mut before = 0.0;
-    for (place, &(name, kind)) in made.iter().enumerate() {
-        let whole = read_count(&format!("{folder}/count.{}", place + 1), kind);
-        let count = match kind {
-            Kind::Conference | Kind::AddCard | Kind::TakeOff => whole - before,
-            _ => whole,
-        };
-        before = whole;
-        if let Kind::RefusedConference | Kind::RefusedAdding = kind {
-            check_reading(rows.last(), count);
-            continue;
-        }
-        if rows.last().is_none_or(|row| row.name != name) {
-            let name = name.to_string();
-            rows.push(Row {
-                name,
-                cells: [None; COLUMNS],
-            });
-        }
-        let row = rows.last_mut().expect("a row was pushed");
-        let cell = &mut row.cells[kind as usize];
-        *cell = Some(cell.map_or(count, |most| most.max(count)));
-    }
-    if fs::exists(format!("{folder}/count.{}", made.len() + 1)).unwrap_or(true) {
-        stop("callgrind counted more calls than were made");
-    }
-    rows
-}
-
-/// A refused call takes what reading the same plan takes, but for a tenth.
-fn check_reading(row: Option<&Row>, refused: f64) {
-    let name = row.map_or("", |row| &row.name);
-    let reading = row.and_then(|row| row.cells[Kind::Reading as usize]);
-    let reading = reading.unwrap_or_default();
-    if refused > 1.1 * reading {
-        stop(&format!(
-            "{name}: reading took {reading:.1}, a refused call {refused:.1}"
-        ));
-    }
-}
-
-fn read_count(path: &str, kind: Kind) -> f64 {
-    let Ok(text) = fs::read_to_string(path) else {
-        stop(&format!("callgrind left no {path}"));
+/// Calls on the opened plan that read it and test its sum; the conference is refused with 14.
+fn carry(measured: &Measured, plan: &[u8], made: &mut Made) {
+    let name = measured.name;
+    let sizes = [0, 2, 4].map(|at| u32::from(plan[at]) + 256 * u32::from(plan[at + 1]));
+    let total = second::totals::total_inside(plan);
+    let opened = Opened {
+        bytes: plan,
+        sizes,
+        total: total.expect("the sum of an accepted rack"),
     };
-    let field = |name: &str| text.lines().find_map(|line| line.strip_prefix(name));
-    let call = field("desc: Trigger: --dump-after=");
-    let count = field("totals: ").and_then(|count| count.parse::<u64>().ok());
-    match count {
-        Some(count) if count > 0 && call == Some(kind.call()) => count as f64 / 1e3,
-        _ => stop(&format!("{path} has no count of {}", kind.call())),
-    }
+    made.push((name, Kind::ReadCarried));
+    assert_eq!(opened.read(), 0, "reading: {name}");
+    made.push((name, Kind::AddressCarried));
+    let width = opened.address(sizes[0] - 1).len();
+    assert_eq!(width, sizes[2].div_ceil(8) as usize, "address: {name}");
+    made.push((name, Kind::ConferenceCarried));
+    let given = opened.conference(measured.worst_conference(plan).refused);
+    assert_eq!(given, [14, 0, 0], "conference: {name}");
+}
+
+type Change = fn(&Growing, &mut Output) -> Changed;
+
+/// As of a conference, what the call takes beside reading and the test of the sum is the difference.
+fn change(
+    growing: &Growing,
+    kind: Kind,
+    [old, new]: [&SummedPlan; 2],
+    call: Change,
+    made: &mut Made,
+) {
+    let (name, output) = (growing.name, &mut [0; PLAN_BYTES]);
+    read(name, &old.file, 0, made);
+    open(name, &old.file, made);
+    made.push((name, Kind::RefusedAdding));
+    let refused = growing::refused(old, output);
+    assert_eq!(refused, (14, [0; 2]), "refused: {name}");
+    made.push((name, kind));
+    let changed = call(growing, output);
+    growing::check(name, changed, output, new);
 }

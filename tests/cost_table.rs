@@ -3,10 +3,11 @@
 use crate::stop;
 use std::fs;
 
-pub const COLUMNS: usize = 9;
+pub const COLUMNS: usize = 10;
 const KINDS: [&str; COLUMNS] = [
     "planning",
     "reading",
+    "opening",
     "step",
     "walk",
     "step_frame",

@@ -1,9 +1,11 @@
 //! Compares the calls of libtest_calls.a with the second implementation: `inner [SEED] [ROUNDS]`.
 //! A round plans and lists a rack and faulty files, makes calls on its plan, on damaged ones and on one made up, chooses between
-//! frames, steps over the rack's links, lets its cards confer, and hangs a card on them.
+//! frames, steps over the rack's links, lets its cards confer, sums its hops up, and hangs a card on them.
 
 #[allow(dead_code)]
 mod callers;
+#[allow(dead_code)]
+mod carried;
 #[allow(dead_code)]
 mod conference;
 #[allow(dead_code)]
@@ -19,11 +21,16 @@ mod inner_counted;
 mod inner_drawn;
 mod inner_lent;
 mod inner_named;
+mod inner_named_totals;
 mod inner_named_turns;
 mod inner_named_walks;
+mod inner_reading;
 mod inner_second;
+mod inner_totals;
 #[allow(dead_code)]
 mod last_card;
+#[allow(dead_code)]
+mod opening;
 #[allow(dead_code)]
 mod racks;
 #[allow(dead_code)]
@@ -33,11 +40,13 @@ use drawn::{some_card, some_count};
 use faults::{plans, wirings};
 use inner_both::{Both, Call, Name, NAMES};
 use inner_changes::{change_damaged, change_plan};
-use inner_drawn::{some_caller, some_frame, some_lengths, some_sizes, some_traffic};
+use inner_drawn::{some_caller, some_frame, some_lengths, some_sizes, some_total, some_traffic};
+use inner_totals::sum_up;
 use racks::kinds::SHAPES;
 use racks::Rng;
 use second::columns::column_numbers;
 use second::planner::Wiring;
+use second::totals::total_inside;
 
 const SEED: u64 = 20_261_116;
 const ROUNDS: u64 = 1_200;
@@ -61,6 +70,7 @@ fn main() {
     let rounds = given_rounds.unwrap_or(ROUNDS);
     let mut cases = Both::new(seed);
     inner_named::check(&mut cases);
+    inner_named_totals::check(&mut cases);
     inner_named_walks::check(&mut cases);
     inner_named_turns::check(&mut cases);
     println!("named cases: {} calls agree", cases.calls());
@@ -130,11 +140,12 @@ fn run_round(both: &mut Both, rng: &mut Rng) {
         follow_plan(both, rng, &plan, 60);
         cross_links(both, rng, &planned.wiring, &plan);
         confer(both, rng, &plan);
-        change_plan(both, rng, &plan);
+        let total = sum_up(both, rng, &plan);
+        change_plan(both, rng, &plan, total);
         for _ in 0..4 {
             let damaged = plans::damaged_plan(rng, &plan);
             follow_plan(both, rng, &damaged, 18);
-            change_damaged(both, rng, &damaged);
+            change_damaged(both, rng, &damaged, total);
         }
     }
     let made_up = plans::made_up_plan(rng);
@@ -151,12 +162,15 @@ fn plan_file(both: &mut Both, rng: &mut Rng, file: &[u8]) {
 
 /// Makes any calls on a plan, sound or not, and choices between two frames, at times the same.
 fn follow_plan(both: &mut Both, rng: &mut Rng, plan: &[u8], calls: usize) {
+    let any = rng.draw() as u32;
+    let total = total_inside(plan).unwrap_or(any);
     for _ in 0..calls {
         let frames = [(); 2].map(|_| some_frame(rng, plan));
         let second = usize::from(rng.below(8) > 0);
         let call = Call {
             name: rng.pick(&NAMES[2..]),
             sizes: some_sizes(rng, plan),
+            total: some_total(rng, total),
             from: some_card(rng, plan),
             goal: some_card(rng, plan),
             third: some_card(rng, plan),

@@ -5,7 +5,7 @@ use crate::inner_lent::{Lengths, Lents};
 use crate::racks::Rng;
 use crate::second::callers::{CALLERS, COUNTS};
 use crate::second::PLAN_BYTES;
-use crate::{inner_calls, inner_second};
+use crate::{inner_calls, inner_reading, inner_second};
 
 const SHOWN: usize = 400;
 /// Refusals are numbered below this.
@@ -22,6 +22,7 @@ pub enum Name {
     WalkByCaller,
     WalkLent,
     NextFrame,
+    ReadSummed,
     ReadCarried,
     /// Both calls: the part, and the number beside it.
     AddressCarried,
@@ -33,9 +34,11 @@ pub enum Name {
     ConferenceCarried,
     AddCard,
     TakeCardOff,
+    AddCarried,
+    TakeOffCarried,
 }
 
-pub const NAMES: [Name; 19] = [
+pub const NAMES: [Name; 22] = [
     Name::PlanRack,
     Name::ListingText,
     Name::CardAddress,
@@ -45,6 +48,7 @@ pub const NAMES: [Name; 19] = [
     Name::WalkByCaller,
     Name::WalkLent,
     Name::NextFrame,
+    Name::ReadSummed,
     Name::ReadCarried,
     Name::AddressCarried,
     Name::StepCarried,
@@ -55,6 +59,19 @@ pub const NAMES: [Name; 19] = [
     Name::ConferenceCarried,
     Name::AddCard,
     Name::TakeCardOff,
+    Name::AddCarried,
+    Name::TakeOffCarried,
+];
+
+/// The calls that take an opened plan's sum.
+pub const CARRYING_SUMS: [Name; 7] = [
+    Name::ReadCarried,
+    Name::AddressCarried,
+    Name::ConferenceCarried,
+    Name::AddCard,
+    Name::TakeCardOff,
+    Name::AddCarried,
+    Name::TakeOffCarried,
 ];
 
 /// What a call answers.
@@ -64,6 +81,7 @@ pub enum Kind {
     Listing,
     Address,
     Sizes,
+    Summed,
     Places,
     Step,
     Walk,
@@ -80,6 +98,7 @@ impl Name {
             Name::ListingText => Kind::Listing,
             Name::CardAddress | Name::AddressCarried => Kind::Address,
             Name::ReadCarried => Kind::Sizes,
+            Name::ReadSummed => Kind::Summed,
             Name::PlanPlaces => Kind::Places,
             Name::StepFrame | Name::StepCarried | Name::OpenedStep => Kind::Step,
             Name::WalkFrame => Kind::Walk,
@@ -88,8 +107,26 @@ impl Name {
             }
             Name::NextFrame => Kind::Choice,
             Name::ConferenceCard | Name::ConferenceCarried => Kind::Conference,
-            Name::AddCard | Name::TakeCardOff => Kind::NewPlan,
+            Name::AddCard | Name::TakeCardOff | Name::AddCarried | Name::TakeOffCarried => {
+                Kind::NewPlan
+            }
         }
+    }
+
+    /// Of the calls that change a plan, those that add a card.
+    pub fn adds(self) -> bool {
+        matches!(self, Name::AddCard | Name::AddCarried)
+    }
+
+    /// It takes an opened plan's sizes.
+    pub fn carries_sizes(self) -> bool {
+        let steps = matches!(self, Name::StepCarried | Name::WalkCarried);
+        steps || self.carries_sum() && !matches!(self, Name::AddCard | Name::TakeCardOff)
+    }
+
+    /// It takes an opened plan's sum, and tests it.
+    pub fn carries_sum(self) -> bool {
+        CARRYING_SUMS.contains(&self)
     }
 
     pub fn lengths(self) -> Lengths {
@@ -98,12 +135,13 @@ impl Name {
             Kind::Listing => [0, 67_873, 0, 0, 0, 2],
             Kind::Address => [0; 6],
             Kind::Sizes | Kind::Places => [0, 0, 0, 0, 0, 3],
+            Kind::Summed => [0, 0, 0, 0, 0, 4],
             Kind::Step => [0, 0, 0, 0, 0, 5],
             Kind::Walk => [0, 0, 256, 0, 0, 6],
             Kind::CallerWalk => [0, 0, 256, COUNTS, 0, 4],
             Kind::Choice => [0, 0, 0, 0, CALLERS, 0],
             Kind::Conference => [0, 0, 0, 0, 0, 2],
-            Kind::NewPlan => [0, PLAN_BYTES, 0, 0, 0, 1],
+            Kind::NewPlan => [0, PLAN_BYTES, 0, 0, 0, 2],
         };
         Lengths {
             words,
@@ -121,14 +159,14 @@ impl Name {
             Kind::Plan => &[0, 1, 2, 3, 4, 5, 6, 7, 8, 9, 10, 11],
             Kind::Listing => &[0, 1],
             Kind::Address => &[0, 12, 13, 14],
-            Kind::Sizes => &[0, 1, 12, 13],
+            Kind::Sizes | Kind::Summed => &[0, 1, 12, 13],
             Kind::Places | Kind::Step => &[0, 1, 12, 14],
             Kind::Walk => &[0, 1, 12, 14, 15],
             Kind::CallerWalk if self == Name::WalkLent => &[0, 1, 12, 14, 15, 18, 19],
             Kind::CallerWalk => &[0, 1, 12, 14, 15, 18],
             Kind::Choice => &[0, 15, 18, 19],
             Kind::Conference => &[0, 1, 12, 13, 14],
-            Kind::NewPlan if self == Name::AddCard => &[0, 1, 12, 13, 14, 16],
+            Kind::NewPlan if self.adds() => &[0, 1, 12, 13, 14, 16],
             Kind::NewPlan => &[0, 1, 12, 13, 17],
         }
     }
@@ -140,6 +178,7 @@ impl Name {
 pub struct Call<'a> {
     pub name: Name,
     pub sizes: [u32; 3],
+    pub total: u32,
     pub from: u32,
     pub goal: u32,
     pub third: u32,
@@ -156,6 +195,7 @@ impl Call<'_> {
         Call {
             name,
             sizes: [0; 3],
+            total: 0,
             from: 0,
             goal: 0,
             third: 0,
@@ -189,7 +229,7 @@ pub struct Both {
     /// For each call, how often each number was the answer.
     pub seen: [[u64; NUMBERS]; NAMES.len()],
     pub counted: Counted,
-    known: inner_second::Known,
+    known: inner_reading::Known,
 }
 
 impl Both {

@@ -1,19 +1,17 @@
 //! The calls of libtest_calls.a, over slices.
 
 use crate::callers::{rows, test_walk_by_caller, test_walk_lent};
+use crate::carried::{
+    test_add_carried, test_address_carried, test_address_refusal_carried, test_conference_carried,
+    test_read_carried, test_step_carried, test_take_off_carried, test_walk_carried, Part,
+};
 use crate::conference::test_conference_card;
 use crate::crossing::{test_step_frame, test_walk_frame};
 use crate::inner_both::{Call, Kind, Name};
 use crate::inner_lent::Lents;
 use crate::last_card::{test_add_card, test_take_card_off};
+use crate::opening::test_read_summed;
 use crate::second::callers::{CALLERS, COUNTS};
-
-/// A slice as the library hands it out.
-#[repr(C)]
-struct Part {
-    start: *const u8,
-    length: usize,
-}
 
 extern "C" {
     fn test_plan_rack(
@@ -51,60 +49,6 @@ extern "C" {
         turns: *mut u32,
         part: *mut Part,
     ) -> u32;
-    fn test_read_carried(
-        bytes: *const u8,
-        bytes_len: usize,
-        cards: u32,
-        links: u32,
-        columns: u32,
-        answer: *mut u32,
-        answer_len: usize,
-    ) -> u32;
-    fn test_address_carried(
-        bytes: *const u8,
-        bytes_len: usize,
-        cards: u32,
-        links: u32,
-        columns: u32,
-        card: u32,
-        part: *mut Part,
-    );
-    fn test_address_refusal_carried(
-        bytes: *const u8,
-        bytes_len: usize,
-        cards: u32,
-        links: u32,
-        columns: u32,
-        card: u32,
-    ) -> u32;
-    fn test_step_carried(
-        bytes: *const u8,
-        bytes_len: usize,
-        cards: u32,
-        links: u32,
-        columns: u32,
-        from: u32,
-        goal: u32,
-        answer: *mut u32,
-        answer_len: usize,
-    ) -> u32;
-    fn test_walk_carried(
-        bytes: *const u8,
-        bytes_len: usize,
-        cards: u32,
-        links: u32,
-        columns: u32,
-        from: u32,
-        goal: u32,
-        caller: u32,
-        frames: *mut u32,
-        hops: *mut u32,
-        turns: *mut u32,
-        met: *mut u16,
-        met_len: usize,
-        answer: *mut u32,
-        answer_len: usize,
-    ) -> u32;
     fn test_opened_step(
         bytes: *const u8,
         bytes_len: usize,
@@ -127,18 +71,6 @@ extern "C" {
         answer: *mut u32,
         answer_len: usize,
     ) -> u32;
-    fn test_conference_carried(
-        bytes: *const u8,
-        bytes_len: usize,
-        cards: u32,
-        links: u32,
-        columns: u32,
-        a: u32,
-        b: u32,
-        c: u32,
-        answer: *mut u32,
-        answer_len: usize,
-    ) -> u32;
 }
 
 /// The library's answer.
@@ -146,7 +78,9 @@ pub fn ask(call: &Call, input: &[u8], lent: &mut Lents) -> u32 {
     match call.name.kind() {
         Kind::Plan | Kind::Listing => plan_or_list(call.name, input, lent),
         Kind::Address => address(call, input, lent),
-        Kind::Sizes | Kind::Places | Kind::Step | Kind::Conference => fields(call, input, lent),
+        Kind::Sizes | Kind::Summed | Kind::Places | Kind::Step | Kind::Conference => {
+            fields(call, input, lent)
+        }
         Kind::Walk => walk(call, input, lent),
         Kind::CallerWalk => caller_walk(call, input, lent),
         Kind::Choice => choice(call, lent),
@@ -191,14 +125,14 @@ fn place(part: Part, first: *const u8) -> (usize, usize) {
 
 fn address(call: &Call, plan: &[u8], lent: &mut Lents) -> u32 {
     let (start, long) = (plan.as_ptr(), plan.len());
-    let ([n, m, k], card) = (call.sizes, call.from);
+    let ([n, m, k], total, card) = (call.sizes, call.total, call.from);
     let mut part = no_part();
     let number = unsafe {
         match call.name {
             Name::CardAddress => test_card_address(start, long, card, &mut part),
             Name::AddressCarried => {
-                test_address_carried(start, long, n, m, k, card, &mut part);
-                test_address_refusal_carried(start, long, n, m, k, card)
+                test_address_carried(start, long, n, m, k, total, card, &mut part);
+                test_address_refusal_carried(start, long, n, m, k, total, card)
             }
             name => not_of_its_kind(name),
         }
@@ -210,18 +144,20 @@ fn address(call: &Call, plan: &[u8], lent: &mut Lents) -> u32 {
 /// Calls that are lent nothing besides the answer's fields.
 fn fields(call: &Call, plan: &[u8], lent: &mut Lents) -> u32 {
     let (start, long) = (plan.as_ptr(), plan.len());
-    let ([n, m, k], a, b, c) = (call.sizes, call.from, call.goal, call.third);
+    let ([n, m, k], total) = (call.sizes, call.total);
+    let [a, b, c] = [call.from, call.goal, call.third];
     let (fields, count) = lent.fields.lend();
     unsafe {
         match call.name {
-            Name::ReadCarried => test_read_carried(start, long, n, m, k, fields, count),
+            Name::ReadSummed => test_read_summed(start, long, fields, count),
+            Name::ReadCarried => test_read_carried(start, long, n, m, k, total, fields, count),
             Name::PlanPlaces => test_plan_places(start, long, a, b, fields, count),
             Name::StepFrame => test_step_frame(start, long, a, b, fields, count),
             Name::StepCarried => test_step_carried(start, long, n, m, k, a, b, fields, count),
             Name::OpenedStep => test_opened_step(start, long, a, b, fields, count),
             Name::ConferenceCard => test_conference_card(start, long, a, b, c, fields, count),
             Name::ConferenceCarried => {
-                test_conference_carried(start, long, n, m, k, a, b, c, fields, count)
+                test_conference_carried(start, long, n, m, k, total, a, b, c, fields, count)
             }
             name => not_of_its_kind(name),
         }
@@ -287,12 +223,21 @@ fn choice(call: &Call, lent: &mut Lents) -> u32 {
 
 fn new_plan(call: &Call, plan: &[u8], lent: &mut Lents) -> u32 {
     let (start, long) = (plan.as_ptr(), plan.len());
+    let ([n, m, k], total, card) = (call.sizes, call.total, call.from);
     let (output, room) = lent.bytes.lend();
     let (fields, count) = lent.fields.lend();
     unsafe {
         match call.name {
-            Name::AddCard => test_add_card(start, long, call.from, output, room, fields, count),
-            Name::TakeCardOff => test_take_card_off(start, long, output, room, fields, count),
+            Name::AddCard => test_add_card(start, long, total, card, output, room, fields, count),
+            Name::TakeCardOff => {
+                test_take_card_off(start, long, total, output, room, fields, count)
+            }
+            Name::AddCarried => test_add_carried(
+                start, long, n, m, k, total, card, output, room, fields, count,
+            ),
+            Name::TakeOffCarried => {
+                test_take_off_carried(start, long, n, m, k, total, output, room, fields, count)
+            }
             name => not_of_its_kind(name),
         }
     }

@@ -26,6 +26,14 @@ struct Changes {
     turned: u64,
 }
 
+/// How often another sum than the plan's was met alone, or beside other sizes, and a damaged plan with the sum of its wiring.
+#[derive(Default)]
+pub struct Sums {
+    pub alone: u64,
+    pub beside_sizes: u64,
+    pub damaged: u64,
+}
+
 /// How often a walk was counted while its caller's turns, or another caller's frames, were full, and a walk was stuck while its
 /// caller's frames were.
 #[derive(Default)]
@@ -54,6 +62,7 @@ pub struct Counted {
     conferences: [u64; 2],
     columns: Columns,
     changes: Changes,
+    pub sums: Sums,
     callers: Callers,
     choices: Choices,
 }
@@ -147,6 +156,11 @@ impl Counted {
             "addresses a byte longer {}, shorter {}; taken off by a link from the last card {}",
             changes.wider, changes.narrower, changes.turned
         );
+        let sums = &self.sums;
+        println!(
+            "other sums alone {}, beside other sizes {}; damaged plans with the sum of their wiring {}",
+            sums.alone, sums.beside_sizes, sums.damaged
+        );
         let callers = &self.callers;
         println!(
             "walks counted with full turns {}, with another caller's frames full {}; stuck with full frames {}",
@@ -161,7 +175,7 @@ impl Counted {
 
     /// What was never met, where there is such a thing.
     pub fn missing(&self) -> Option<&'static str> {
-        let (columns, changes) = (&self.columns, &self.changes);
+        let (columns, changes, sums) = (&self.columns, &self.changes, &self.sums);
         let (callers, choices) = (&self.callers, &self.choices);
         let ends = [&self.outcomes[..], &self.ends, &self.conferences].concat();
         let all = [
@@ -176,6 +190,10 @@ impl Counted {
             (
                 &[changes.wider, changes.narrower, changes.turned],
                 "never did a card more or less change the bytes of an address, or a link from the last card go",
+            ),
+            (
+                &[sums.alone, sums.beside_sizes, sums.damaged],
+                "never was another sum carried, alone or beside other sizes, or a damaged plan's own",
             ),
             (
                 &[callers.full_turns, callers.full_others, callers.full_and_stuck],

@@ -1,4 +1,4 @@
-//! Sizes, lengths, callers, their counts and frames drawn at random, at their limits too.
+//! Sizes, sums, lengths, callers, their counts and frames drawn at random, at their limits too.
 
 use crate::drawn::{some_card, some_count, some_length, MOST};
 use crate::inner_both::Name;
@@ -6,13 +6,17 @@ use crate::inner_lent::Lengths;
 use crate::racks::Rng;
 use crate::second::callers::{CALLERS, COUNTS};
 
-/// Mostly the sizes in the bytes; else one of them is another.
-pub fn some_sizes(rng: &mut Rng, plan: &[u8]) -> [u32; 3] {
-    let number = |at: usize| {
+/// The sizes in the bytes, 0 where there are none.
+pub fn sizes_in(plan: &[u8]) -> [u32; 3] {
+    [0, 2, 4].map(|at| {
         plan.get(at..at + 2)
             .map_or(0, |two| u32::from(two[0]) + 256 * u32::from(two[1]))
-    };
-    let mut sizes = [number(0), number(2), number(4)];
+    })
+}
+
+/// Mostly the sizes in the bytes; else one of them is another.
+pub fn some_sizes(rng: &mut Rng, plan: &[u8]) -> [u32; 3] {
+    let mut sizes = sizes_in(plan);
     if rng.below(4) == 0 {
         let (size, any) = (rng.below(3), rng.draw() as u32);
         let old = sizes[size];
@@ -26,6 +30,22 @@ pub fn some_sizes(rng: &mut Rng, plan: &[u8]) -> [u32; 3] {
         ]);
     }
     sizes
+}
+
+/// Mostly the right sum; else another, or any.
+pub fn some_total(rng: &mut Rng, right: u32) -> u32 {
+    let any = rng.draw() as u32;
+    match rng.below(5) {
+        0 => rng.pick(&[
+            0,
+            right.wrapping_sub(1),
+            right.wrapping_add(1),
+            right.wrapping_mul(2),
+            MOST,
+            any,
+        ]),
+        _ => right,
+    }
 }
 
 /// Mostly the right lengths. Counts and turns are always lent for all callers.

@@ -1,9 +1,11 @@
-//! The cases that the rules name of a card more and a card less. What they leave is the plan of a rack that is made by itself.
+//! The cases that the rules name of a card more and a card less. What they leave is the plan of a rack that is made by itself, and the sum
+//! of its hops.
 
 use crate::inner_both::{Both, Name};
-use crate::inner_changes::{change, new_plan};
+use crate::inner_changes::{change, new_plan, Summed, CHANGES};
 use crate::racks::{chain, cube, ring, star, Rack};
 use crate::second::planner::plan;
+use crate::second::totals::total_of_columns;
 use crate::second::MOST_CARDS;
 use crate::stop;
 use std::ops::Range;
@@ -12,26 +14,50 @@ use std::ops::Range;
 const FEW: Range<usize> = 1..18;
 const MANY: Range<usize> = MOST_CARDS - 2..MOST_CARDS;
 
+/// Each two cards are as far apart as their numbers.
+fn chain_total(cards: usize) -> u32 {
+    (1..cards).map(|hops| (hops * (cards - hops)) as u32).sum()
+}
+
+/// Each card is a hop from card 0, and each two others are two hops apart.
+fn star_total(cards: usize) -> u32 {
+    let others = cards as u32 - 1;
+    others + others * others.saturating_sub(1)
+}
+
 pub fn check(both: &mut Both) {
     for cards in FEW.chain(MANY) {
-        grows(both, &chain(cards), cards - 1, &chain(cards + 1));
-        grows(both, &star(cards), 0, &star(cards + 1));
+        let [chains, stars] = [chain_total, star_total].map(|sum| [cards, cards + 1].map(sum));
+        grows(both, [chain(cards), chain(cards + 1)], chains, cards - 1);
+        grows(both, [star(cards), star(cards + 1)], stars, 0);
     }
-    for rack in [chain(MOST_CARDS), star(MOST_CARDS), cube(8)] {
-        let plan = plan_of(&rack);
-        refused(both, Name::AddCard, MOST_CARDS - 1, &plan, 16);
-        refused(both, Name::AddCard, MOST_CARDS, &plan, 14);
+    for (rack, total) in [
+        (chain(MOST_CARDS), chain_total(MOST_CARDS)),
+        (star(MOST_CARDS), star_total(MOST_CARDS)),
+        (cube(8), 131_072),
+    ] {
+        let plan = &plan_of(&rack);
+        for [adding, _] in CHANGES {
+            refused(both, adding, MOST_CARDS - 1, Summed { plan, total }, 16);
+            refused(both, adding, MOST_CARDS, Summed { plan, total }, 14);
+        }
     }
     for rack in racks_for_17() {
-        refused(both, Name::TakeCardOff, 0, &plan_of(&rack), 17);
+        let plan = &plan_of(&rack);
+        let total = total_of_columns(plan);
+        for [_, taking_off] in CHANGES {
+            refused(both, taking_off, 0, Summed { plan, total }, 17);
+        }
     }
-    for rack in [ring(6), cube(8)] {
+    for (rack, total) in [(ring(6), 27), (cube(8), 131_072)] {
         let mut plan = plan_of(&rack);
         let end = plan.len() - 1;
         plan[end] ^= 1;
-        for (damaged, number) in [(&plan[..end], 12), (&plan, 13)] {
-            refused(both, Name::AddCard, rack.cards, damaged, number);
-            refused(both, Name::TakeCardOff, 0, damaged, number);
+        for (plan, number) in [(&plan[..end], 12), (&plan, 13)] {
+            for [adding, taking_off] in CHANGES {
+                refused(both, adding, rack.cards, Summed { plan, total }, number);
+                refused(both, taking_off, 0, Summed { plan, total }, number);
+            }
         }
     }
 }
@@ -66,32 +92,45 @@ pub fn plan_of(rack: &Rack) -> Vec<u8> {
 }
 
 /// A card hung on a card of one rack makes it the other, and taken off, its link drawn either way, the one again.
-fn grows(both: &mut Both, less: &Rack, card: usize, more: &Rack) {
+fn grows(both: &mut Both, [less, more]: [Rack; 2], [sum, raised]: [u32; 2], card: usize) {
     let mut turned = more.clone();
     turned.links.pop();
     turned.links.push((less.cards, card));
-    let [less, more, turned] = [less, more, &turned].map(plan_of);
-    leaves(both, Name::AddCard, card, &less, &more);
-    leaves(both, Name::TakeCardOff, 0, &more, &less);
-    leaves(both, Name::TakeCardOff, 0, &turned, &less);
+    let plans = [less, more, turned].map(|rack| plan_of(&rack));
+    let of = |rack: usize, total: u32| Summed {
+        plan: &plans[rack],
+        total,
+    };
+    let [less, more, turned] = [of(0, sum), of(1, raised), of(2, raised)];
+    for [adding, taking_off] in CHANGES {
+        leaves(both, adding, card, less, more);
+        leaves(both, taking_off, 0, more, less);
+        leaves(both, taking_off, 0, turned, less);
+    }
 }
 
-fn leaves(both: &mut Both, name: Name, card: usize, old: &[u8], new: &[u8]) {
-    let answer = both.call(change(name, card as u32), old, name.lengths());
+fn leaves(both: &mut Both, name: Name, card: usize, old: Summed, new: Summed) {
+    let answer = both.call(change(name, old, card as u32), old.plan, name.lengths());
     let (number, left) = (answer.number, new_plan(&answer));
     if number != 0 || left != new {
         stop(&format!(
-            "FAILED: {name:?} {card}: answered with {number}, left {left:02x?}, not {new:02x?}"
+            "FAILED: {name:?} {card}: answered with {number}, left the sum {} and {:02x?}, not {} and {:02x?}",
+            left.total, left.plan, new.total, new.plan
         ));
     }
 }
 
-fn refused(both: &mut Both, name: Name, card: usize, plan: &[u8], number: u32) {
-    let answer = both.call(change(name, card as u32), plan, name.lengths());
+fn refused(both: &mut Both, name: Name, card: usize, old: Summed, number: u32) {
+    let answer = both.call(change(name, old, card as u32), old.plan, name.lengths());
     let (given, left) = (answer.number, new_plan(&answer));
-    if given != number || !left.is_empty() {
+    let nothing = Summed {
+        plan: &[],
+        total: 0,
+    };
+    if given != number || left != nothing {
         stop(&format!(
-            "FAILED: {name:?} {card}: answered with {given}, not {number}: {plan:02x?}"
+            "FAILED: {name:?} {card}: answered with {given}, not {number}, and the sum {}: {:02x?}",
+            left.total, old.plan
         ));
     }
 }

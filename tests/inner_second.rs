@@ -3,21 +3,13 @@
 use crate::inner_both::{Call, Kind, Name};
 use crate::inner_callers::{caller_walk, next_frame};
 use crate::inner_lent::Lents;
+use crate::inner_reading::{address, conference, new_plan, read, Known};
 use crate::second::columns::{differing_columns, first_of};
-use crate::second::conference::Ways;
-use crate::second::last_card::Changer;
 use crate::second::listing::listing;
 use crate::second::planner::{all_hops, plan};
 use crate::second::plans::Layout;
 
 const CARDS: usize = 256;
-
-/// The last plan that was read for a conference, with its ways, since many are asked of one plan; and what changes plans.
-#[derive(Default)]
-pub struct Known {
-    ways: Option<(Vec<u8>, Ways)>,
-    changer: Changer,
-}
 
 /// The answer's fields go into lent numbers; where these are not as many, the call is 1 and touches nothing.
 pub fn ask(known: &mut Known, call: &Call, input: &[u8], lent: &mut Lents) -> u32 {
@@ -28,15 +20,15 @@ pub fn ask(known: &mut Known, call: &Call, input: &[u8], lent: &mut Lents) -> u3
     match call.name.kind() {
         Kind::Plan => plan_rack(call, input, lent),
         Kind::Listing => listing_text(call, input, lent),
-        Kind::Address => address(call, input, lent),
-        Kind::Sizes => read(input, lent),
+        Kind::Address => address(known, call, input, lent),
+        Kind::Sizes | Kind::Summed => read(known, call, input, lent),
         Kind::Places => plan_places(call, input, lent),
         Kind::Step => step_frame(call, input, lent),
         Kind::Walk => walk_frame(call, input, lent),
         Kind::CallerWalk => caller_walk(call, input, lent),
         Kind::Choice => next_frame(call, lent),
         Kind::Conference => conference(known, call, input, lent),
-        Kind::NewPlan => new_plan(&mut known.changer, call, input, lent),
+        Kind::NewPlan => new_plan(known, call, input, lent),
     }
 }
 
@@ -45,11 +37,7 @@ pub fn ask(known: &mut Known, call: &Call, input: &[u8], lent: &mut Lents) -> u3
 fn seen<'a>(call: &Call, input: &'a [u8]) -> &'a [u8] {
     let sizes = call.sizes.map(|size| size as usize);
     let whole = match call.name {
-        Name::ReadCarried
-        | Name::AddressCarried
-        | Name::StepCarried
-        | Name::WalkCarried
-        | Name::ConferenceCarried => {
+        name if name.carries_sizes() => {
             Layout::new(input).is_ok_and(|plan| [plan.cards, plan.links, plan.columns] == sizes)
         }
         Name::OpenedStep | Name::OpenedWalk => Layout::read(input).is_ok(),
@@ -108,33 +96,6 @@ fn listing_text(call: &Call, file: &[u8], lent: &mut Lents) -> u32 {
     text.fill(0);
     text[..listing.len()].copy_from_slice(listing.as_bytes());
     put(lent, &[0, listing.len()]);
-    0
-}
-
-fn read(plan: &[u8], lent: &mut Lents) -> u32 {
-    put(lent, &[0, 0, 0]);
-    match Layout::read(plan) {
-        Ok(plan) => {
-            put(lent, &[plan.cards, plan.links, plan.columns]);
-            0
-        }
-        Err(refusal) => refusal.number,
-    }
-}
-
-/// With a refusal the part is empty, at the plan's first byte.
-fn address(call: &Call, plan: &[u8], lent: &mut Lents) -> u32 {
-    lent.part = Some((0, 0));
-    let plan = match Layout::read(plan) {
-        Ok(plan) => plan,
-        Err(refusal) => return refusal.number,
-    };
-    let card = call.from as usize;
-    if card >= plan.cards {
-        return 14;
-    }
-    let size = plan.columns.div_ceil(8);
-    lent.part = Some((6 + 4 * plan.links + card * size, size));
     0
 }
 
@@ -241,49 +202,4 @@ fn walk_frame(call: &Call, plan: &[u8], lent: &mut Lents) -> u32 {
     };
     put(lent, &[arrived, hops, frames, total, found, column]);
     0
-}
-
-/// 12, 13, 14 of any of the three; then 1 and the card, or 0 and 0 for none.
-fn conference(known: &mut Known, call: &Call, plan: &[u8], lent: &mut Lents) -> u32 {
-    put(lent, &[0, 0]);
-    let ways = match known.ways.take() {
-        Some((last, ways)) if last == plan => ways,
-        _ => match Layout::read(plan) {
-            Ok(plan) => Ways::new(&plan.wiring()),
-            Err(refusal) => return refusal.number,
-        },
-    };
-    let (_, ways) = known.ways.insert((plan.to_vec(), ways));
-    let three = [call.from, call.goal, call.third].map(|card| card as usize);
-    if three.iter().any(|&card| card >= ways.cards()) {
-        return 14;
-    }
-    match ways.conference(three)[..] {
-        [] => {}
-        [card] => put(lent, &[1, card]),
-        _ => panic!("{three:?} have two conference cards"),
-    }
-    0
-}
-
-/// The new plan with zeros behind it, and its length. With a refusal the bytes stay as they were.
-fn new_plan(changer: &mut Changer, call: &Call, plan: &[u8], lent: &mut Lents) -> u32 {
-    put(lent, &[0]);
-    let output = lent.bytes.items_mut();
-    if output.len() != call.name.lengths().bytes {
-        return 1;
-    }
-    let new = match call.name {
-        Name::AddCard => changer.add_card(plan, call.from as usize),
-        _ => changer.take_card_off(plan),
-    };
-    match new {
-        Ok(new) => {
-            output.fill(0);
-            output[..new.len()].copy_from_slice(&new);
-            put(lent, &[new.len()]);
-            0
-        }
-        Err(refusal) => refusal.number,
-    }
 }

@@ -6,6 +6,7 @@ extern "C" {
     pub fn test_add_card(
         plan: *const u8,
         plan_len: usize,
+        total: u32,
         card: u32,
         output: *mut u8,
         output_len: usize,
@@ -15,6 +16,7 @@ extern "C" {
     pub fn test_take_card_off(
         plan: *const u8,
         plan_len: usize,
+        total: u32,
         output: *mut u8,
         output_len: usize,
         answer: *mut u32,
@@ -22,13 +24,16 @@ extern "C" {
     ) -> u32;
 }
 
-/// The number, and the new plan's length.
-pub fn add_card(plan: &[u8], card: u32, output: &mut [u8; PLAN_BYTES]) -> (u32, usize) {
-    let mut answer = [0];
+/// The number, and the new plan's length and sum.
+pub type Changed = (u32, [u32; 2]);
+
+pub fn add_card(plan: &[u8], total: u32, card: u32, output: &mut [u8; PLAN_BYTES]) -> Changed {
+    let mut answer = [0; 2];
     let number = unsafe {
         test_add_card(
             plan.as_ptr(),
             plan.len(),
+            total,
             card,
             output.as_mut_ptr(),
             output.len(),
@@ -36,21 +41,21 @@ pub fn add_card(plan: &[u8], card: u32, output: &mut [u8; PLAN_BYTES]) -> (u32, 
             answer.len(),
         )
     };
-    (number, answer[0] as usize)
+    (number, answer)
 }
 
-/// The number, and the new plan's length.
-pub fn take_card_off(plan: &[u8], output: &mut [u8; PLAN_BYTES]) -> (u32, usize) {
-    let mut answer = [0];
+pub fn take_card_off(plan: &[u8], total: u32, output: &mut [u8; PLAN_BYTES]) -> Changed {
+    let mut answer = [0; 2];
     let number = unsafe {
         test_take_card_off(
             plan.as_ptr(),
             plan.len(),
+            total,
             output.as_mut_ptr(),
             output.len(),
             answer.as_mut_ptr(),
             answer.len(),
         )
     };
-    (number, answer[0] as usize)
+    (number, answer)
 }

@@ -1,5 +1,5 @@
-//! A second implementation of planning, plan reading, walking, columns, callers and their turns, conference cards and a card more or less,
-//! written from the rules alone. The tests compare it with the calls, and the benchmark times it beside those for C.
+//! A second implementation of planning, plan reading, walking, columns, callers and their turns, conference cards, sums of hops and a card
+//! more or less, written from the rules alone. The tests compare it with the calls, and the benchmark times it beside those for C.
 
 pub mod callers;
 pub mod columns;
@@ -8,6 +8,7 @@ pub mod last_card;
 pub mod listing;
 pub mod planner;
 pub mod plans;
+pub mod totals;
 
 use plans::{Layout, Walk};
 

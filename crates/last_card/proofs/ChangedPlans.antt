@@ -151,7 +151,7 @@ module _ (ps : List ℕ) (h : plan-refusal ps ≡ 0) where
     pub pendant-less : Pendant u (hook w) w
     pendant-less = pendant-removed w rack hangs
 
-    whole-less : connected u ≡ true
+    pub whole-less : connected u ≡ true
     whole-less = connected-removed pendant-less (rack .whole)
 
     links-fewer : m - 1 ≡ link-count u

@@ -1,5 +1,6 @@
 pub mod ReadParts
 pub mod ChangedPlans
+pub mod ChangedSums
 pub mod Refusals
 pub mod Planned
 pub mod Promises

@@ -1,6 +1,6 @@
 -- The wiring with a card more and the one without the last card are planned: their plans are read with them inside, and are what the plan writer
--- leaves for their files. And what a call's answer says of a plan that it leaves. Assumes nothing.
-use mathlib.Core.Path.{_≡_, refl, sym, ap, _∙_, subst}
+-- leaves for their files. And what a call's answer says of a plan that it leaves and of its sum. Assumes nothing.
+use mathlib.Core.Path.{_≡_, refl, sym, ap, _∙_}
 use mathlib.Core.Bool.{true}
 use mathlib.Core.Logic.{inl, inr, _≢_}
 use mathlib.Core.List.{List, _++_}
@@ -14,7 +14,6 @@ use Rattle.rack.specs.Wiring.{Wiring, link-count}
 use Rattle.rack.specs.Refusals.{wiring-refusal}
 use Rattle.rack.specs.WiringFile.{file-wiring, file-refusal, file-bytes}
 use Rattle.rack.specs.PlanFile.{plan-cards, plan-links, plan-wiring}
-use Rattle.rack.proofs.Logic.{by-eq}
 use Rattle.rack.proofs.Accepted.{wiring-accepted}
 use Rattle.rack.proofs.WiringFile.{wiring-at-cards, wiring-at-count}
 use Rattle.planner.specs.PlanBytes.{plan-bytes}
@@ -26,9 +25,12 @@ use Rattle.reader.proofs.Plan.{Layout, layout-facts, plan-clear, plan-read}
 use Rattle.reader.proofs.Promises.{read-exactly}
 use Rattle.pendant.specs.Pendant.{with-card, without-card, last-hangs}
 use Rattle.pendant.proofs.Acceptance.{count-links, accepted-added, accepted-removed}
+use Rattle.totals.specs.Totals.{total-hops}
 use Rattle.plan_changer.specs.Changing.{New-plan-is}
 use Rattle.plan_changer.specs.declared.NewPlan.{NewPlan}
 use Rattle.plan_changer.proofs.Refused.{Full}
+use Rattle.last_card.specs.Calls.{Changed-is}
+use Rattle.last_card.specs.declared.SummedPlan.{SummedPlan}
 use Rattle.last_card.proofs.ChangedPlans.{pendant-more, pendant-less}
 
 -- PLANNED: the wiring's plan is read with it inside, and its file is accepted with it inside
@@ -72,15 +74,6 @@ module _ {x : ℕ} {plan : List ℕ} {r : NewPlan} {output output-now : List ℕ
       let t = ne-eqb x 0 (λ e. d (says .number ∙ e)) in
       (says .long ∙ rw t refl, says .output-left ∙ rw t refl)
 
-  -- where it is no refusal, it may be said of another name of the plan
-  pub says-same : (same : List ℕ) → (x ≡ 0 → plan ≡ same) → New-plan-is x same r output output-now
-  says-same same e =
-      by-eq x 0
-      (λ z. subst (λ (bs : List ℕ). New-plan-is x bs r output output-now) (e z) says)
-      (λ d.
-      let t = ne-eqb x 0 d in
-      record { number = says .number; long = says .long ∙ rw t refl; output-left = says .output-left ∙ rw t refl })
-
   module _ (z : r .number ≡ 0) where
     pub not-refused : x ≡ 0
     not-refused = sym (says .number) ∙ z
@@ -94,20 +87,33 @@ module _ {x : ℕ} {plan : List ℕ} {r : NewPlan} {output output-now : List ℕ
     pub part-left : take (r .length) output-now ≡ plan
     part-left = ap (take (r .length)) bytes-left ∙ take-at plan (replicate (length output - length plan) 0) (r .length) (sym length-left)
 
--- one that leaves the plan of a planned wiring: the part that it leaves is read, and the plan writer leaves the same
-module _ {w : Wiring} (p : Planned w) {x : ℕ} {r : NewPlan} {output output-now : List ℕ} (says : New-plan-is x (plan-bytes w) r output output-now)
-    (z : r .number ≡ 0) where
-  pub part-read : (plan-refusal (take (r .length) output-now) ≡ 0) × (plan-wiring (take (r .length) output-now) ≡ w)
-  part-read = (ap plan-refusal (part-left says z) ∙ p .read, ap plan-wiring (part-left says z) ∙ p .inside)
+-- A CHANGED PLAN, which has the sum of its hops beside it
+module _ {x : ℕ} {w : Wiring} {r : SummedPlan} {output output-now : List ℕ} (says : Changed-is x w r output output-now) where
+  pub refused-sum-zero : r .number ≢ 0 → r .total ≡ 0
+  refused-sum-zero d = says .total ∙ rw (ne-eqb x 0 (λ e. d (says .plan .number ∙ e))) refl
 
-  pub as-written : length output ≡ lent-plan → (a : Answer) (other other-now : List ℕ) → length other ≡ lent-plan → Write-says (file-bytes w) a other other-now
-      → (a .number ≡ 0) × (a .value ≡ r .length) × (other-now ≡ output-now)
-  unfolding writing-refusal left-in
-  as-written room a other other-now lent writes =
-      let clear : writing-refusal (file-bytes w) (length other) .number ≡ 0 = rw (eq-eqb (length other) lent-plan lent) (p .file) in
-      let number : a .number ≡ 0 = writes .answer .number ∙ clear in
-      let same : length other ≡ length output = lent ∙ sym room in (
-        number,
-        writes .answer .value ∙ rw (eq-eqb (writing-refusal (file-bytes w) (length other) .number) 0 clear, p .file-inside) (sym (length-left says z)),
-        writes .output-left ∙ rw (number, p .file-inside, same) (sym (bytes-left says z)),
-      )
+  module _ (z : r .number ≡ 0) where
+    pub sum-left : r .total ≡ total-hops w
+    sum-left = says .total ∙ rw (eq-eqb x 0 (not-refused (says .plan) z)) refl
+
+    -- of a planned wiring: the part that is left is read, and the plan writer leaves the same
+    module _ (p : Planned w) where
+      pub part-read : let new = take (r .length) output-now in
+          (plan-refusal new ≡ 0) × (plan-wiring new ≡ w) × (r .total ≡ total-hops (plan-wiring new))
+      part-read =
+          let bytes = part-left (says .plan) z in
+          let inside = ap plan-wiring bytes ∙ p .inside in
+          (ap plan-refusal bytes ∙ p .read, inside, sum-left ∙ sym (ap total-hops inside))
+
+      pub as-written : length output ≡ lent-plan → (a : Answer) (other other-now : List ℕ) → length other ≡ lent-plan
+          → Write-says (file-bytes w) a other other-now → (a .number ≡ 0) × (a .value ≡ r .length) × (other-now ≡ output-now)
+      unfolding writing-refusal left-in
+      as-written room a other other-now lent writes =
+          let clear : writing-refusal (file-bytes w) (length other) .number ≡ 0 = rw (eq-eqb (length other) lent-plan lent) (p .file) in
+          let number : a .number ≡ 0 = writes .answer .number ∙ clear in
+          let same : length other ≡ length output = lent ∙ sym room in (
+            number,
+            writes .answer .value
+                ∙ rw (eq-eqb (writing-refusal (file-bytes w) (length other) .number) 0 clear, p .file-inside) (sym (length-left (says .plan) z)),
+            writes .output-left ∙ rw (number, p .file-inside, same) (sym (bytes-left (says .plan) z)),
+          )

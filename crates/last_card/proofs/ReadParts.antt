@@ -26,11 +26,12 @@ use Rattle.rack.proofs.WiringFile.{length-two-bytes, wiring-at-cards, wiring-at
 use Rattle.planner.specs.PlanBytes.{address-bytes, plan-bytes}
 use Rattle.planner.proofs.PlanBytes.{written-byte}
 use Rattle.reader.specs.Plan.{plan-refusal}
-use Rattle.reader.specs.Reading.{Read-says}
 use Rattle.reader.specs.declared.layout.Sizes.{Sizes}
-use Rattle.reader.proofs.AddressPart.{read-laid-out}
 use Rattle.reader.proofs.Plan.{plan-clear}
 use Rattle.reader.proofs.Promises.{read-accepted, read-columns}
+use Rattle.plan_totals.specs.Summed.{Read-with-total-says}
+use Rattle.plan_totals.proofs.Refusals.{total-clear}
+use Rattle.plan_totals.proofs.Answers.{total-laid-out}
 use Rattle.plan_parts.specs.Parts.{part, first-ends, second-ends, row-byte, row}
 use Rattle.plan_parts.proofs.AddressRows.{row-byte-below, row-byte-behind}
 use Rattle.plan_changer.specs.Changed.{Known}
@@ -131,11 +132,11 @@ link-crosses w a some =
     (link-joins w l (in-getD (w .links) 0 (link 0 0) some)) in
     omega (arith, x .inside)
 
-pub read-known : (ps : List ℕ) (s : Sizes) → Read-says ps s → s .number ≡ 0 → Known ps s
-read-known ps s says z =
-    let h : plan-refusal ps ≡ 0 = sym (says .number) ∙ z in
+pub read-known : (ps : List ℕ) (t : ℕ) (s : Sizes) → Read-with-total-says ps t s → s .number ≡ 0 → Known ps s
+read-known ps t s says z =
+    let h = total-clear ps t (sym (says .number) ∙ z) .0 in
     let a = read-accepted ps h in
-    let laid = read-laid-out ps 0 s says z in
+    let laid = total-laid-out ps t s says z in
     record {
       laid-out = laid;
       few = omega (arith, a .few, laid .columns, laid .cards, read-columns ps h, wiring-at-cards 6 ps);

@@ -1,6 +1,6 @@
 -- What an opened plan owns, taken apart for a call on its bytes and on some of its numbers. What a number owns is made anew. Assumes nothing.
 use mathlib.Core.Path.{_≡_, refl}
-use mathlib.Core.List.{List, [], _∷_}
+use mathlib.Core.List.{List, [], _∷_, _++_}
 use Prim.Native.Nat.{ℕ, _<_, _^_}
 use lib.Dec.{T as Holds}
 use lib.ListN.{length}
@@ -47,6 +47,10 @@ sizes =
     ∷ record { value = λ d. d .links; fits = λ d wt. wt .1 .1 .1 .0 .fits }
     ∷ record { value = λ d. d .columns; fits = λ d wt. wt .1 .1 .1 .1 .0 .fits }
     ∷ []
+
+-- .. and the sum of hops behind them
+abbrev pub sizes-and-total : List Field
+sizes-and-total = sizes ++ (record { value = λ d. d .total; fits = λ d wt. wt .1 .1 .1 .1 .1 .1 .0 .fits } ∷ [])
 
 -- PARAMETERS of a function that is passed numbers of a plan, before others
 -- a parameter that is a number
@@ -115,7 +119,7 @@ module _ {M : Type 1} (𝓤 : URA M) (H : Heap 𝓤) (A : Atoms 𝓤) (W : Given
   L = T′.the-laws α
 
   abbrev fields : Values (D .parts)
-  fields = (d .bytes, (d .cards, (d .links, (d .columns, (d .number, tt)))))
+  fields = (d .bytes, (d .cards, (d .links, (d .columns, (d .number, (d .total, tt))))))
 
   abbrev Own : Fml
   Own = T.the-row α .own d (T′.lowered d ∷ [])

@@ -1,4 +1,5 @@
-pub mod Carrying
+pub mod Openings
 pub mod Held
+pub mod Seen
 pub mod Promises
 pub mod Methods

@@ -1,87 +1,39 @@
 -- The promises of specs/Promises.antt, proved. Assumes nothing.
 use mathlib.Core.Path.{_≡_, refl, sym, ap, _∙_, subst}
-use mathlib.Core.Bool.{Bool, true, false, _&&_}
+use mathlib.Core.Bool.{true, false, cond}
 use mathlib.Core.List.{List, []}
 use mathlib.Core.Logic.{_≢_}
-use Prim.Native.Nat.{ℕ, _≤_}
+use Prim.Native.Nat.{ℕ, _≤_, _<_}
 use native.Mathlib.Omega.{arith}
 use lib.Dec.{eqb}
+use lib.ListN.{take}
 use denote.Ref.{now}
-use borrow.Author.Tests.{eqb-true, eq-eqb, ne-eqb}
-use Rattle.rack.proofs.Logic.{and-left, and-right, not-true-false, by-bool}
-use Rattle.rack.specs.PlanFile.{plan-cards, plan-links, plan-columns}
+use borrow.Author.Tests.{eq-eqb, ne-eqb}
+use Rattle.rack.specs.PlanFile.{plan-cards, plan-links, plan-columns, plan-wiring}
+use Rattle.rack.proofs.Logic.{not-true-false, by-eq, by-lt}
 use Rattle.reader.specs.Plan.{layout-holds, plan-refusal}
-use Rattle.reader.specs.Promises.{Refused-address-empty, No-such-card}
-use Rattle.reader.specs.Reading.{layout-refusal, card-refusal, part-unless, address-part, address-refusal}
-use Rattle.reader.proofs.Promises.{read-measured, refused-address-empty, no-such-card}
-use Rattle.forwarder.specs.Calls.{step-refusal}
+use Rattle.reader.specs.Reading.{card-refusal, address-refusal, Part-is, Read-says}
+use Rattle.reader.specs.declared.layout.Sizes.{Sizes}
+use Rattle.reader.proofs.AddressPart.{refused-before as card-refused-before, card-outside, card-inside, refused-part}
+use Rattle.totals.specs.Totals.{total-hops}
+use Rattle.plan_totals.specs.Summed.{total-refusal}
+use Rattle.plan_totals.proofs.Refusals.{other-total, clear-total, total-clear, total-refusal-most}
+use Rattle.last_card.specs.Calls.{Add-says, Take-off-says}
+use Rattle.last_card.specs.Promises.{Added-is-read, Taken-off-is-read}
+use Rattle.last_card.proofs.Promises.{added-is-read, taken-off-is-read}
 use Rattle.crossing.specs.Crossing.{Frame-step-says}
-use Rattle.conference.specs.Conference.{three-refusal, conference-refusal, Conference-says}
-use Rattle.traffic.specs.Traffic.{caller-refusal}
-use Rattle.callers.specs.Walking.{caller-walk-refusal, Caller-walk-says}
-use Rattle.opened.specs.Opening.{carries, opened-bytes, Opening-says, Walk-with-arrival}
-use Rattle.opened.specs.Promises.{Sizes-carried, Carries-exactly, Opening-whole, Twelve-in-every-call, Refused-opening, Other-sizes}
-use Rattle.opened.specs.Promises.{Refused-opening-empty, Opened-frame-arrives, Opened-step-own, Opened-walk-own, Opened-conference-own, Opened-address-own, Opened-address-refused}
+use Rattle.callers.specs.Walking.{Caller-walk-says}
+use Rattle.conference.specs.Conference.{three-refusal, conference-refusal, Conference-is}
+use Rattle.carried.specs.Carried.{carries, address-refusal-with, Walk-with-arrival}
+use Rattle.opened.specs.Opening.{opened-bytes, Opening-says}
+use Rattle.opened.specs.Promises.{Sizes-carried, Sum-carried, Carries-exactly, Opening-whole, Refused-opening-empty}
+use Rattle.opened.specs.Promises.{Refused-opening, Other-sizes, Other-sum, Sum-unseen}
+use Rattle.opened.specs.Promises.{Opened-frame-arrives, Opened-step-own, Opened-walk-own, Opened-conference-own, Opened-change-own, Changed-opens}
+use Rattle.opened.specs.Promises.{Opened-address-own, Opened-address-refused}
 use Rattle.opened.specs.declared.Opened.{Opened}
-use Rattle.opened.proofs.Carrying.{carried-bytes-whole, carried-bytes-none}
-
--- NO BYTES are 12 in every call
-no-bytes-twelve : Twelve-in-every-call []
-unfolding plan-refusal layout-refusal layout-holds card-refusal part-unless address-refusal step-refusal caller-refusal caller-walk-refusal conference-refusal three-refusal
-no-bytes-twelve =
-    record {
-      read = refl;
-      address = λ c. refl;
-      part = λ c. refl;
-      step = λ a b. refl;
-      walk = λ a b u t. refl;
-      conference = λ a b c. refl;
-    }
+use Rattle.opened.proofs.Seen.{ps, carried, refused-where-13-is-tested, sizes-carry, carry-sizes, carried-twelve, layout-whole, read-whole, whole-read}
 
 -- THE TEST of the sizes carried
-module _ (p : Opened) where
-  abbrev ps : List ℕ
-  ps = now (p .bytes)
-
-  abbrev carried : Bool
-  carried = carries ps (p .cards) (p .links) (p .columns)
-
-  sizes-carry : layout-holds ps ≡ true → Sizes-carried p → carried ≡ true
-  unfolding carries
-  sizes-carry l z =
-      rw (
-        l,
-        eq-eqb (p .cards) (plan-cards ps) (z .cards),
-        eq-eqb (p .links) (plan-links ps) (z .links),
-        eq-eqb (p .columns) (plan-columns ps) (z .columns),
-      ) refl
-
-  carry-sizes : carried ≡ true → (layout-holds ps ≡ true) × Sizes-carried p
-  unfolding carries
-  carry-sizes t =
-      let l = layout-holds ps in
-      let n = eqb (p .cards) (plan-cards ps) in
-      let m = eqb (p .links) (plan-links ps) in
-      let k = eqb (p .columns) (plan-columns ps) in
-      let links = and-left (l && n && m) k t in
-      let cards = and-left (l && n) m links in (
-        and-left l n cards,
-        record {
-          cards = eqb-true (p .cards) (plan-cards ps) (and-right l n cards);
-          links = eqb-true (p .links) (plan-links ps) (and-right (l && n) m links);
-          columns = eqb-true (p .columns) (plan-columns ps) (and-right (l && n && m) k t);
-        },
-      )
-
-  carried-twelve : carried ≡ false → Twelve-in-every-call (opened-bytes p)
-  carried-twelve t = subst Twelve-in-every-call (sym (carried-bytes-none ps (p .cards) (p .links) (p .columns) t)) no-bytes-twelve
-
-  layout-whole : layout-holds ps ≡ true → Sizes-carried p → opened-bytes p ≡ ps
-  layout-whole l z = carried-bytes-whole ps (p .cards) (p .links) (p .columns) (sizes-carry l z)
-
-  read-whole : plan-refusal ps ≡ 0 → Sizes-carried p → opened-bytes p ≡ ps
-  read-whole h = layout-whole (read-measured ps h .layout)
-
 pub carries-exactly : Carries-exactly
 unfolding Carries-exactly
 carries-exactly p = (carry-sizes p, λ z. sizes-carry p (z .0) (z .1))
@@ -90,11 +42,31 @@ pub other-sizes : Other-sizes
 unfolding Other-sizes
 other-sizes p h = carried-twelve p (not-true-false (carried p) (λ t. h (carry-sizes p t .1)))
 
--- AN OPENING has the bytes and their sizes, or none and 0
+-- THE SUM carried
+pub other-sum : Other-sum
+unfolding Other-sum
+other-sum p h z n =
+    refused-where-13-is-tested p 13 (λ e. omega arith)
+    (ap (λ (qs : List ℕ). total-refusal qs (p .total)) (read-whole p h z) ∙ other-total (ps p) (p .total) h n)
+
+pub sum-unseen : Sum-unseen
+unfolding Sum-unseen
+sum-unseen p q same = (
+  λ a b r says. subst (λ (bs : List ℕ). Frame-step-says bs a b r) seen says,
+  λ a b u t r old new says. subst (λ (bs : List ℕ). Walk-with-arrival bs a b u t r old new) seen says,
+)
+  where
+    seen : opened-bytes p ≡ opened-bytes q
+    seen = rw (same .bytes, same .cards, same .links, same .columns) refl
+
+-- AN OPENING has the bytes, their sizes and their sum, or none and 0
 module _ (qs : List ℕ) (at : ℕ × ℕ) (p : Opened) (s : Opening-says qs at p) where
   module _ (e : p .number ≡ 0) where
+    read : plan-refusal qs ≡ 0
+    read = sym (s .number) ∙ e
+
     clear : eqb (plan-refusal qs) 0 ≡ true
-    clear = eq-eqb (plan-refusal qs) 0 (sym (s .number) ∙ e)
+    clear = eq-eqb (plan-refusal qs) 0 read
 
     opened-holds-bytes : now (p .bytes) ≡ qs
     opened-holds-bytes = s .bytes .bytes ∙ rw clear refl
@@ -107,8 +79,11 @@ module _ (qs : List ℕ) (at : ℕ × ℕ) (p : Opened) (s : Opening-says qs at 
           columns = s .columns ∙ rw (clear, opened-holds-bytes) refl;
         }
 
+    opened-sum : p .total ≡ total-hops (plan-wiring qs)
+    opened-sum = s .total ∙ rw clear refl
+
     opened-whole : opened-bytes p ≡ qs
-    opened-whole = read-whole p (ap plan-refusal opened-holds-bytes ∙ sym (s .number) ∙ e) opened-sizes ∙ opened-holds-bytes
+    opened-whole = read-whole p (ap plan-refusal opened-holds-bytes ∙ read) opened-sizes ∙ opened-holds-bytes
 
   module _ (n : p .number ≢ 0) where
     refused : eqb (plan-refusal qs) 0 ≡ false
@@ -117,8 +92,8 @@ module _ (qs : List ℕ) (at : ℕ × ℕ) (p : Opened) (s : Opening-says qs at 
     refused-none : now (p .bytes) ≡ []
     refused-none = s .bytes .bytes ∙ rw refused refl
 
-    refused-sizes : (p .cards ≡ 0) × (p .links ≡ 0) × (p .columns ≡ 0)
-    refused-sizes = (s .cards ∙ rw refused refl, s .links ∙ rw refused refl, s .columns ∙ rw refused refl)
+    refused-numbers : (p .cards ≡ 0) × (p .links ≡ 0) × (p .columns ≡ 0) × (p .total ≡ 0)
+    refused-numbers = (s .cards ∙ rw refused refl, s .links ∙ rw refused refl, s .columns ∙ rw refused refl, s .total ∙ rw refused refl)
 
     refused-carries : carried p ≡ false
     unfolding carries layout-holds
@@ -127,16 +102,20 @@ module _ (qs : List ℕ) (at : ℕ × ℕ) (p : Opened) (s : Opening-says qs at 
 pub opening-whole : Opening-whole
 unfolding Opening-whole
 opening-whole qs at p s e =
-    (record { place = s .bytes .place; bytes = opened-holds-bytes qs at p s e }, opened-sizes qs at p s e, opened-whole qs at p s e)
+    let bytes = opened-holds-bytes qs at p s e in
+    (record { place = s .bytes .place; bytes = bytes }, opened-sizes qs at p s e, opened-sum qs at p s e ∙ rw bytes refl, opened-whole qs at p s e)
 
 pub refused-opening-empty : Refused-opening-empty
 unfolding Refused-opening-empty
-refused-opening-empty qs at p s n = let z = refused-sizes qs at p s n in (s .number, refused-none qs at p s n, z .0, z .1, z .2)
+refused-opening-empty qs at p s n =
+    let z = refused-numbers qs at p s n in
+    (s .number, refused-none qs at p s n, z .0, z .1, z .2, z .3)
 
 pub refused-opening : Refused-opening
 unfolding Refused-opening
 refused-opening qs at p s n = carried-twelve p (refused-carries qs at p s n)
 
+-- THE PLAN'S OWN BYTES
 pub opened-frame-arrives : Opened-frame-arrives
 unfolding Opened-frame-arrives
 opened-frame-arrives p a b u t r old new z f c w =
@@ -151,28 +130,83 @@ unfolding Opened-walk-own
 opened-walk-own p a b u t r old new l z w = subst (λ (qs : List ℕ). Caller-walk-says qs a b u t r old new) (layout-whole p l z) (w .says)
 
 pub opened-conference-own : Opened-conference-own
-unfolding Opened-conference-own
-opened-conference-own p a b c r h z says = subst (λ (qs : List ℕ). Conference-says qs a b c r) (read-whole p h z) says
+unfolding Opened-conference-own conference-refusal
+opened-conference-own p a b c r h z m says =
+    let own = rw (read-whole p h z) at says in
+    subst (λ (x : ℕ). Conference-is (three-refusal x (plan-cards (ps p)) a b c) (ps p) a b c r) (clear-total (ps p) (p .total) h m ∙ sym h) own
+
+pub opened-change-own : Opened-change-own
+unfolding Opened-change-own
+opened-change-own p r old new h z = (
+  λ c says. subst (λ (qs : List ℕ). Add-says qs (p .total) c r old new) (read-whole p h z) says,
+  λ says. subst (λ (qs : List ℕ). Take-off-says qs (p .total) r old new) (read-whole p h z) says,
+)
+
+-- A CHANGED PLAN, opened: reading it has an answer, and opening it finds the sum of the wiring inside
+as-read : List ℕ → Sizes
+as-read qs =
+    let given : ℕ → ℕ = λ x. cond (eqb (plan-refusal qs) 0) x 0 in
+    record { number = plan-refusal qs; cards = given (plan-cards qs); links = given (plan-links qs); columns = given (plan-columns qs) }
+
+reading-says : (qs : List ℕ) → Read-says qs (as-read qs)
+unfolding as-read
+reading-says qs = record { number = refl; cards = refl; links = refl; columns = refl }
+
+opens-with : (qs : List ℕ) (at : ℕ × ℕ) (q : Opened) (x t : ℕ) → Opening-says qs at q → x ≡ plan-refusal qs → x ≡ 0 → t ≡ total-hops (plan-wiring qs)
+    → (q .number ≡ 0) × (q .total ≡ t)
+opens-with qs at q x t opens read e sum =
+    (opens .number ∙ sym read ∙ e, opens .total ∙ rw (eq-eqb (plan-refusal qs) 0 (sym read ∙ e)) (sym sum))
+
+pub changed-opens : Changed-opens
+unfolding Changed-opens Added-is-read Taken-off-is-read
+changed-opens p q at r old new z opens =
+    let qs = take (r .length) new in
+    let s = as-read qs in
+    let reads = reading-says qs in (
+      λ c says. let a = added-is-read (opened-bytes p) (p .total) c r s old new says z reads in
+          opens-with qs at q (s .number) (r .total) opens (reads .number) (a .0) (a .2),
+      λ says. let a = taken-off-is-read (opened-bytes p) (p .total) r s old new says z reads in
+          opens-with qs at q (s .number) (r .total) opens (reads .number) (a .0) (a .2),
+    )
 
 -- AN ADDRESS of an opened plan
 pub opened-address-own : Opened-address-own
-unfolding Opened-address-own
-opened-address-own qs at p c r s e z = rw (opened-whole qs at p s e, s .bytes .place) at z
+unfolding Opened-address-own address-refusal
+opened-address-own qs at p c r s e z =
+    let own = rw (opened-whole qs at p s e, s .bytes .place) at z in
+    subst (λ (x : ℕ). Part-is (card-refusal x (plan-cards qs) c) qs at c r)
+    (clear-total qs (p .total) (read qs at p s e) (opened-sum qs at p s e) ∙ sym (read qs at p s e)) own
+
+module _ (p : Opened) (c : ℕ) where
+  abbrev seen : List ℕ
+  seen = opened-bytes p
+
+  abbrev read-as : ℕ
+  read-as = total-refusal seen (p .total)
+
+  -- 14 is said of a card number that is n or more, and of a plan that was read with its sum
+  outside-of-14 : card-refusal read-as (plan-cards seen) c ≡ 14 → (read-as ≡ 0) × (plan-cards seen ≤ c)
+  outside-of-14 h =
+      by-eq read-as 0
+      (λ e. (e, by-lt c (plan-cards seen) (λ (l : c < plan-cards seen). absurd (omega (arith, h, card-inside read-as (plan-cards seen) c e l))) (λ l. l)))
+      (λ n. absurd (omega (arith, h, card-refused-before read-as (plan-cards seen) c n, total-refusal-most seen (p .total))))
+
+  outside : card-refusal read-as (plan-cards seen) c ≡ 14 → (plan-refusal (ps p) ≡ 0) × Sizes-carried p × Sum-carried p × (p .cards ≤ c)
+  outside h =
+      let z = outside-of-14 h in
+      let clear = total-clear seen (p .total) (z .0) in
+      let whole = whole-read p (clear .0) in (
+        ap plan-refusal (sym (whole .0)) ∙ clear .0,
+        whole .1,
+        clear .1 ∙ ap (λ (bs : List ℕ). total-hops (plan-wiring bs)) (whole .0),
+        omega (arith, z .1, whole .1 .cards, ap plan-cards (whole .0)),
+      )
+
+  no-card : (plan-refusal (ps p) ≡ 0) × Sizes-carried p × Sum-carried p × (p .cards ≤ c) → card-refusal read-as (plan-cards seen) c ≡ 14
+  no-card (h, sizes, sum, l) =
+      rw (read-whole p h sizes)
+      (card-outside (total-refusal (ps p) (p .total)) (plan-cards (ps p)) c (clear-total (ps p) (p .total) h sum) (omega (arith, sizes .cards)))
 
 pub opened-address-refused : Opened-address-refused
-unfolding Opened-address-refused Refused-address-empty No-such-card
-opened-address-refused p c = (refused-address-empty (opened-bytes p) c, (outside, no-card))
-  where
-    outside : address-refusal (opened-bytes p) c ≡ 14 → (plan-refusal (ps p) ≡ 0) × Sizes-carried p × (p .cards ≤ c)
-    outside h =
-        by-bool (carried p)
-        (λ (t : carried p ≡ true).
-        let whole = carried-bytes-whole (ps p) (p .cards) (p .links) (p .columns) t in
-        let z = no-such-card (ps p) c .0 (ap (λ (xs : List ℕ). address-refusal xs c) (sym whole) ∙ h) in
-        let sizes = carry-sizes p t .1 in
-        (z .0, sizes, omega (arith, z .1, sizes .cards)))
-        (λ (t : carried p ≡ false). absurd (omega (arith, h, carried-twelve p t .address c)))
-
-    no-card : (plan-refusal (ps p) ≡ 0) × Sizes-carried p × (p .cards ≤ c) → address-refusal (opened-bytes p) c ≡ 14
-    no-card (h, sizes, l) =
-        ap (λ (xs : List ℕ). address-refusal xs c) (read-whole p h sizes) ∙ no-such-card (ps p) c .1 (h, omega (arith, sizes .cards))
+unfolding Opened-address-refused
+opened-address-refused p c = (λ n. refused-part (opened-bytes p) c (address-refusal-with (opened-bytes p) (p .total) c) n .1, (outside p c, no-card p c))

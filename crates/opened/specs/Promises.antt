@@ -4,20 +4,27 @@ use mathlib.Core.Bool.{true}
 use mathlib.Core.List.{List, []}
 use mathlib.Core.Logic.{_↔_, _≢_}
 use Prim.Native.Nat.{ℕ, _≤_}
+use lib.ListN.{take}
 use denote.Ref.{RefT, now}
 use Rattle.rack.specs.Buffers.{Slice-is}
-use Rattle.rack.specs.PlanFile.{plan-cards, plan-links, plan-columns}
+use Rattle.rack.specs.Limits.{lent-plan}
+use Rattle.rack.specs.PlanFile.{plan-cards, plan-links, plan-columns, plan-wiring}
 use Rattle.reader.specs.Plan.{layout-holds, plan-refusal}
-use Rattle.reader.specs.Reading.{address-part, address-refusal, Address-says}
+use Rattle.reader.specs.Reading.{part-unless, Address-says}
 use Rattle.forwarder.specs.Calls.{step-refusal, lent-met}
+use Rattle.totals.specs.Totals.{total-hops}
+use Rattle.plan_totals.specs.Summed.{total-refusal}
+use Rattle.last_card.specs.Calls.{add-card-refusal, take-off-refusal, Add-says, Take-off-says}
+use Rattle.last_card.specs.declared.SummedPlan.{SummedPlan}
 use Rattle.crossing.specs.Crossing.{Frame-step-says}
 use Rattle.crossing.specs.declared.FrameStep.{FrameStep}
-use Rattle.conference.specs.Conference.{conference-refusal, Conference-says}
-use Rattle.conference.specs.declared.Conference.{Conference}
 use Rattle.traffic.specs.declared.Traffic.{Traffic}
 use Rattle.callers.specs.Walking.{caller-walk-refusal, Caller-walk-says, Caller-frame, Caller-can-take, Caller-arrived}
 use Rattle.callers.specs.declared.CallerWalk.{CallerWalk}
-use Rattle.opened.specs.Opening.{carries, opened-bytes, Opening-says, Walk-with-arrival}
+use Rattle.conference.specs.Conference.{Conference-says}
+use Rattle.conference.specs.declared.Conference.{Conference}
+use Rattle.carried.specs.Carried.{carries, address-refusal-with, Address-says-with, conference-refusal-with, Conference-says-with, Walk-with-arrival}
+use Rattle.opened.specs.Opening.{opened-bytes, Opening-says}
 use Rattle.opened.specs.declared.Opened.{Opened}
 
 -- the sizes carried with the bytes are those in them
@@ -26,38 +33,67 @@ pub record Sizes-carried (p : Opened) : Type 0 where
   pub links : p .links ≡ plan-links (now (p .bytes))
   pub columns : p .columns ≡ plan-columns (now (p .bytes))
 
--- the test in plain words
+-- the sum carried with them is that of the wiring in them
+abbrev pub Sum-carried : Opened → Type 0
+Sum-carried p = p .total ≡ total-hops (plan-wiring (now (p .bytes)))
+
+-- the test of the sizes in plain words
 unfoldable pub Carries-exactly : Type 0
 Carries-exactly =
     (p : Opened) → (carries (now (p .bytes)) (p .cards) (p .links) (p .columns) ≡ true) ↔ ((layout-holds (now (p .bytes)) ≡ true) × Sizes-carried p)
 
--- "An opened plan carries the plan bytes themselves together with their three sizes": one that was not refused; and each call sees them
+-- "An opened plan carries the plan bytes themselves together with their three sizes", and holds the sum of hops: one that was not refused;
+-- and each call sees them
 unfoldable pub Opening-whole : Type 0
 Opening-whole =
     (ps : List ℕ) (at : ℕ × ℕ) (p : Opened) → Opening-says ps at p → p .number ≡ 0 →
-    Slice-is at ps (p .bytes) × Sizes-carried p × (opened-bytes p ≡ ps)
+    Slice-is at ps (p .bytes) × Sizes-carried p × Sum-carried p × (opened-bytes p ≡ ps)
 
--- "A refused opening has its number, no bytes and sizes 0"
+-- "A refused opening has its number, no bytes and sizes 0", and the sum "0 after a refused opening"
 unfoldable pub Refused-opening-empty : Type 0
 Refused-opening-empty =
     (ps : List ℕ) (at : ℕ × ℕ) (p : Opened) → Opening-says ps at p → p .number ≢ 0 →
-    (p .number ≡ plan-refusal ps) × (now (p .bytes) ≡ []) × (p .cards ≡ 0) × (p .links ≡ 0) × (p .columns ≡ 0)
+    (p .number ≡ plan-refusal ps) × (now (p .bytes) ≡ []) × (p .cards ≡ 0) × (p .links ≡ 0) × (p .columns ≡ 0) × (p .total ≡ 0)
 
--- 12 in every call on these bytes, and no part of them for an address
-pub record Twelve-in-every-call (ps : List ℕ) : Type 0 where
-  pub read : plan-refusal ps ≡ 12
-  pub address : (c : ℕ) → address-refusal ps c ≡ 12
-  pub part : (c : ℕ) → address-part ps c ≡ []
-  pub step : (a b : ℕ) → step-refusal ps a b ≡ 12
-  pub walk : (a b u : ℕ) (t : Traffic) → caller-walk-refusal ps a b u t lent-met ≡ 12
-  pub conference : (a b c : ℕ) → conference-refusal ps a b c ≡ 12
+-- this number in every call that tests 13, and no part of the bytes for an address
+pub record Where-13-is-tested (x : ℕ) (p : Opened) : Type 0 where
+  pub read : total-refusal (opened-bytes p) (p .total) ≡ x
+  pub address : (c : ℕ) → address-refusal-with (opened-bytes p) (p .total) c ≡ x
+  pub part : (c : ℕ) → part-unless (address-refusal-with (opened-bytes p) (p .total) c) (opened-bytes p) c ≡ []
+  pub conference : (a b c : ℕ) → conference-refusal-with (opened-bytes p) (p .total) a b c ≡ x
+  pub add : (c : ℕ) → add-card-refusal (opened-bytes p) (p .total) c lent-plan ≡ x
+  pub take-off : take-off-refusal (opened-bytes p) (p .total) lent-plan ≡ x
 
--- a refused opening, and sizes that differ from those in the bytes
+-- 12 in every call
+pub record Twelve-in-every-call (p : Opened) : Type 0 where
+  pub reading : Where-13-is-tested 12 p
+  pub step : (a b : ℕ) → step-refusal (opened-bytes p) a b ≡ 12
+  pub walk : (a b u : ℕ) (t : Traffic) → caller-walk-refusal (opened-bytes p) a b u t lent-met ≡ 12
+
+-- a refused opening, and sizes that differ from those in the bytes: whatever the sum is
 unfoldable pub Refused-opening : Type 0
-Refused-opening = (ps : List ℕ) (at : ℕ × ℕ) (p : Opened) → Opening-says ps at p → p .number ≢ 0 → Twelve-in-every-call (opened-bytes p)
+Refused-opening = (ps : List ℕ) (at : ℕ × ℕ) (p : Opened) → Opening-says ps at p → p .number ≢ 0 → Twelve-in-every-call p
 
 unfoldable pub Other-sizes : Type 0
-Other-sizes = (p : Opened) → (Sizes-carried p → ⊥) → Twelve-in-every-call (opened-bytes p)
+Other-sizes = (p : Opened) → (Sizes-carried p → ⊥) → Twelve-in-every-call p
+
+-- "another sum in it is 13, in the calls that test 13"
+unfoldable pub Other-sum : Type 0
+Other-sum = (p : Opened) → plan-refusal (now (p .bytes)) ≡ 0 → Sizes-carried p → (Sum-carried p → ⊥) → Where-13-is-tested 13 p
+
+-- steps and walks do not look at the sum: two plans with the same bytes and sizes answer alike
+pub record Alike-but-for-the-sum (p q : Opened) : Type 0 where
+  pub bytes : now (p .bytes) ≡ now (q .bytes)
+  pub cards : p .cards ≡ q .cards
+  pub links : p .links ≡ q .links
+  pub columns : p .columns ≡ q .columns
+
+unfoldable pub Sum-unseen : Type 0
+Sum-unseen =
+    (p q : Opened) → Alike-but-for-the-sum p q →
+    ((a b : ℕ) (r : FrameStep) → Frame-step-says (opened-bytes p) a b r → Frame-step-says (opened-bytes q) a b r)
+    × ((a b u : ℕ) (t : Traffic) (r : CallerWalk) (old new : List ℕ) →
+    Walk-with-arrival (opened-bytes p) a b u t r old new → Walk-with-arrival (opened-bytes q) a b u t r old new)
 
 -- demand 3 by caller: a frame whose plan was read, and whose carried sizes are those in the bytes, arrives by the fewest links
 unfoldable pub Opened-frame-arrives : Type 0
@@ -78,21 +114,38 @@ Opened-walk-own =
     (p : Opened) (a b u : ℕ) (t : Traffic) (r : CallerWalk) (old new : List ℕ) → layout-holds (now (p .bytes)) ≡ true → Sizes-carried p →
     Walk-with-arrival (opened-bytes p) a b u t r old new → Caller-walk-says (now (p .bytes)) a b u t r old new
 
--- three cards of a plan that was read, and whose carried sizes are those in the bytes, get the answer of the plan's own bytes
+-- three cards of a plan that was read, and whose carried sizes and sum are those of the bytes, get the answer of the plan's own bytes
 unfoldable pub Opened-conference-own : Type 0
 Opened-conference-own =
-    (p : Opened) (a b c : ℕ) (r : Conference) → plan-refusal (now (p .bytes)) ≡ 0 → Sizes-carried p →
-    Conference-says (opened-bytes p) a b c r → Conference-says (now (p .bytes)) a b c r
+    (p : Opened) (a b c : ℕ) (r : Conference) → plan-refusal (now (p .bytes)) ≡ 0 → Sizes-carried p → Sum-carried p →
+    Conference-says-with (opened-bytes p) (p .total) a b c r → Conference-says (now (p .bytes)) a b c r
+
+-- on a plan that was read, and whose carried sizes are those in the bytes, adding and taking off answer as on the plan's own bytes with the
+-- carried sum
+unfoldable pub Opened-change-own : Type 0
+Opened-change-own =
+    (p : Opened) (r : SummedPlan) (old new : List ℕ) → plan-refusal (now (p .bytes)) ≡ 0 → Sizes-carried p →
+    ((c : ℕ) → Add-says (opened-bytes p) (p .total) c r old new → Add-says (now (p .bytes)) (p .total) c r old new)
+    × (Take-off-says (opened-bytes p) (p .total) r old new → Take-off-says (now (p .bytes)) (p .total) r old new)
+
+-- "the new plan's sum": opening what adding or taking off leaves finds the sum that the call gave
+unfoldable pub Changed-opens : Type 0
+Changed-opens =
+    (p q : Opened) (at : ℕ × ℕ) (r : SummedPlan) (old new : List ℕ) → r .number ≡ 0 → Opening-says (take (r .length) new) at q →
+    ((c : ℕ) → Add-says (opened-bytes p) (p .total) c r old new → (q .number ≡ 0) × (q .total ≡ r .total))
+    × (Take-off-says (opened-bytes p) (p .total) r old new → (q .number ≡ 0) × (q .total ≡ r .total))
 
 -- "A card's address is handed out as that part of the plan's own bytes": of those of the plan that was opened
 unfoldable pub Opened-address-own : Type 0
 Opened-address-own =
     (ps : List ℕ) (at : ℕ × ℕ) (p : Opened) (c : ℕ) (r : RefT (List ℕ)) → Opening-says ps at p → p .number ≡ 0 →
-    Address-says (opened-bytes p) (p .bytes .ptr) c r → Address-says ps at c r
+    Address-says-with (opened-bytes p) (p .total) (p .bytes .ptr) c r → Address-says ps at c r
 
--- a refused address is empty; 14 is said exactly of bytes that are read, with the sizes carried in them, and a card number that is n or more
+-- a refused address is empty; 14 is said exactly of bytes that are read, with the sizes in them and their sum, and a card number that is n or
+-- more
 unfoldable pub Opened-address-refused : Type 0
 Opened-address-refused =
     (p : Opened) (c : ℕ) →
-    (address-refusal (opened-bytes p) c ≢ 0 → address-part (opened-bytes p) c ≡ [])
-    × ((address-refusal (opened-bytes p) c ≡ 14) ↔ ((plan-refusal (now (p .bytes)) ≡ 0) × Sizes-carried p × (p .cards ≤ c)))
+    let x = address-refusal-with (opened-bytes p) (p .total) c in
+    (x ≢ 0 → part-unless x (opened-bytes p) c ≡ [])
+    × ((x ≡ 14) ↔ ((plan-refusal (now (p .bytes)) ≡ 0) × Sizes-carried p × Sum-carried p × (p .cards ≤ c)))

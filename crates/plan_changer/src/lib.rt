@@ -30,7 +30,7 @@ pub struct NewPlan {
 }
 
 // A refusal's number and no length.
-pub fn no_plan(number: u32) -> NewPlan
+fn no_plan(number: u32) -> NewPlan
     ensures { λ r. ⌜ r ≡ no-plan number ⌝ }
 {
     NewPlan {

@@ -3,7 +3,7 @@ use mathlib.Core.Path.{_≡_, refl}
 use mathlib.Core.Bool.{Bool, true, not}
 use mathlib.Core.List.{List, [], _∷_, _++_, map, cons≢nil}
 use Prim.Native.String.{String}
-use Rattle.rack.specs.Lists.{all, filter}
+use Rattle.rack.specs.Lists.{all, filter, sum}
 use Rattle.rack.specs.Bits.{number-bit, bits-value}
 use Rattle.rack.specs.Wiring.{joins, linked, neighbours, touches, other-end}
 use Rattle.rack.specs.Hops.{has-path, hops, unreached, connected}
@@ -16,7 +16,7 @@ use Rattle.rack.proofs.Logic.{by-bool}
 use Rattle.rack.proofs.Lists.{In, all-in}
 use Rattle.planner.specs.PlanBytes.{address-bytes, plan-bytes}
 use Rattle.reader.specs.Plan.{layout-holds, content-holds, plan-refusal}
-use Rattle.reader.specs.Reading.{layout-refusal}
+use Rattle.reader.specs.Reading.{layout-refusal, card-refusal}
 use Rattle.forwarder.specs.Forwarding.{leads-nearer, step, walk-from, walk}
 use Rattle.forwarder.specs.Calls.{step-refusal, walk-hops, takes, walk-refusal}
 use Rattle.crossing.specs.Differing.{lowest-differing, plan-differing, column-number}
@@ -26,14 +26,17 @@ use Rattle.traffic.specs.Traffic.{caller-refusal, tally-of, with-tally, raised}
 use Rattle.callers.specs.Walking.{caller-walk-refusal, lent-walk-refusal}
 use Rattle.conference.specs.Conference.{between, median, conference, three-refusal, conference-refusal}
 use Rattle.pendant.specs.Pendant.{with-card, without-card, last-hangs}
+use Rattle.totals.specs.Totals.{hops-to, total-hops, column-products}
+use Rattle.plan_totals.specs.Summed.{total-refusal}
 use Rattle.plan_changer.specs.Changing.{add-refusal, off-refusal}
 use Rattle.last_card.specs.Calls.{add-card-refusal, take-off-refusal}
+use Rattle.carried.specs.Carried.{carries, carried-bytes}
 use Rattle.text.specs.Decimals.{digits, decimal}
 use Rattle.listing_text.specs.Listing.{cards-word, links-word, columns-word, card-word, refused-word, at-link, at-card, space, dash, line-end}
 use Rattle.listing_text.specs.Listing.{number-line, address-text, card-line, size-lines, rack-lines, rack-text, names-link, place-text, refused-text, listing}
-use Rattle.promises.specs.Claims.{hex-digit, hex-bytes, hex, Claim, ends-so, counts-of, same-traffic, turns-of, chooses, claim-holds, Case, case, rack, file-of, plan-of, case-holds, failing}
+use Rattle.promises.specs.Claims.{hex-digit, hex-bytes, hex, Claim, ends-so, counts-of, same-traffic, turns-of, chooses, own-total, claim-holds, Case, case, rack, file-of, plan-of, case-holds, failing}
 use Rattle.promises.specs.Cases.{ring-of-four, ring-of-six, ring-plan, star-of-nine-plan, star-of-ten-plan, required-cases, size-cases, link-cases, rack-cases, plan-cases}
-use Rattle.promises.specs.Cases.{call-cases, crossing-cases, caller-cases, turn-cases, conference-cases, last-card-cases, cases}
+use Rattle.promises.specs.Cases.{call-cases, crossing-cases, caller-cases, turn-cases, conference-cases, last-card-cases, opened-cases, cases}
 
 -- A CLAIM THAT FAILS has no proof, and the checker's message shows it, behind the name of its row. Both types are pairs: to check a
 -- pair the checker has to compute the list, and then says what it found in it.
@@ -46,8 +49,8 @@ None ((s, c) ∷ rest) = Fails s c × Unit {0}
 -- THE TEST
 none-fails : None (failing cases)
 unfolding cases required-cases size-cases link-cases rack-cases plan-cases call-cases crossing-cases caller-cases turn-cases conference-cases
-    last-card-cases ring-of-four ring-of-six ring-plan star-of-nine-plan star-of-ten-plan rack file-of plan-of hex hex-bytes hex-digit ends-so
-    counts-of same-traffic turns-of chooses claim-holds failing
+    last-card-cases opened-cases ring-of-four ring-of-six ring-plan star-of-nine-plan star-of-ten-plan rack file-of plan-of hex hex-bytes hex-digit ends-so
+    counts-of same-traffic turns-of chooses own-total claim-holds failing
     number-bit bits-value joins linked neighbours touches other-end has-path hops unreached connected
     nearer-first side column same-column add-column add-columns columns column-count address hamming embeds
     or-else lowest-fault link-fault links-refusal reach-refusal parity-refusal embedding-refusal rack-refusal wiring-refusal
@@ -58,7 +61,7 @@ unfolding cases required-cases size-cases link-cases rack-cases plan-cases call-
     frame-goal frame-caller first-goes next-caller choice-refusal turns-after caller-refusal tally-of with-tally raised caller-walk-refusal
     lent-walk-refusal
     between median conference three-refusal conference-refusal with-card without-card last-hangs add-refusal off-refusal add-card-refusal
-    take-off-refusal digits decimal
+    take-off-refusal sum hops-to total-hops column-products total-refusal card-refusal carries carried-bytes digits decimal
     cards-word links-word columns-word card-word refused-word at-link at-card space dash line-end number-line address-text
     card-line size-lines rack-lines rack-text names-link place-text refused-text listing
 none-fails = (tt, tt)

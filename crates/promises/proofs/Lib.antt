@@ -1,3 +1,4 @@
 pub mod Promises
 pub mod PlanCalls
+pub mod OpenedPlans
 pub mod Cases

@@ -1,5 +1,5 @@
--- The promises of the calls on a plan besides reading and forwarding, each proved: columns crossed, walks by caller, turns, conference cards, a card
--- more and a card less, opened plans. The first part of the list is Promises.antt. Assumes nothing.
+-- The promises of the calls on a plan besides reading and forwarding, each proved: columns crossed, walks by caller, turns, conference cards. The
+-- first part of the list is Promises.antt, the last OpenedPlans.antt. Assumes nothing.
 use Rattle.crossing.specs.Promises.{Lowest-differing, Step-crosses, Walk-crosses, Link-crosses, Plan-link-crosses}
 use Rattle.crossing.specs.Promises.{Places-found, Places-name-column, Answers-cross, Step-names-column, Walk-names-column}
 use Rattle.crossing.specs.Promises.{Step-column-local, Frame-step-local}
@@ -13,14 +13,6 @@ use Rattle.callers.specs.Promises.{Arrival-counted, Others-unseen, Others-uncou
 use Rattle.callers.proofs.Promises as callers
 use Rattle.conference.specs.Promises.{Between-means, Conference-promise, Conference-refused, Conference-repeated, Conference-order}
 use Rattle.conference.proofs.Promises as conference
-use Rattle.pendant.specs.Promises.{Hops-added, Columns-added, Addresses-added, Added-accepted, Taken-off-accepted, Hangs-means, Taken-off-restores}
-use Rattle.pendant.proofs.Promises as pendant
-use Rattle.last_card.specs.Promises.{Add-refused, Take-off-refused, Refusals-keep, Added-is-read, Taken-off-is-read}
-use Rattle.last_card.specs.Promises.{Added-as-written, Taken-off-as-written, Taking-off-undoes}
-use Rattle.last_card.proofs.Promises as last-card
-use Rattle.opened.specs.Promises.{Carries-exactly, Opening-whole, Refused-opening-empty, Refused-opening, Other-sizes, Opened-frame-arrives}
-use Rattle.opened.specs.Promises.{Opened-step-own, Opened-walk-own, Opened-conference-own, Opened-address-own, Opened-address-refused}
-use Rattle.opened.proofs.Promises as opened
 
 -- the lowest column in which two addresses differ, or none where they are equal
 pub lowest-differing : Lowest-differing
@@ -155,97 +147,3 @@ conference-repeated = conference.conference-repeated
 -- the order of the three does not matter
 pub conference-order : Conference-order
 conference-order = conference.conference-order
-
--- with a card more on a last link: hops, columns and addresses
-pub hops-added : Hops-added
-hops-added = pendant.hops-added
-
-pub columns-added : Columns-added
-columns-added = pendant.columns-added
-
-pub addresses-added : Addresses-added
-addresses-added = pendant.addresses-added
-
--- such a rack is accepted, and so is the one without a last card that hangs on the last link
-pub added-accepted : Added-accepted
-added-accepted = pendant.added-accepted
-
-pub taken-off-accepted : Taken-off-accepted
-taken-off-accepted = pendant.taken-off-accepted
-
--- a last card hangs on the last link where that is its one link; a card added does, and without it the wiring is the old one
-pub hangs-means : Hangs-means
-hangs-means = pendant.hangs-means
-
-pub taken-off-restores : Taken-off-restores
-taken-off-restores = pendant.taken-off-restores
-
--- a card more: 14 before 16, behind the plan's own numbers; the last card taken off: 17
-pub add-refused : Add-refused
-add-refused = last-card.add-refused
-
-pub take-off-refused : Take-off-refused
-take-off-refused = last-card.take-off-refused
-
--- with every refusal the lent bytes stay
-pub refusals-keep : Refusals-keep
-refusals-keep = last-card.refusals-keep
-
--- the new plan is read, with the changed wiring inside
-pub added-is-read : Added-is-read
-added-is-read = last-card.added-is-read
-
-pub taken-off-is-read : Taken-off-is-read
-taken-off-is-read = last-card.taken-off-is-read
-
--- it is what the plan writer leaves for the changed wiring's file
-pub added-as-written : Added-as-written
-added-as-written = last-card.added-as-written
-
-pub taken-off-as-written : Taken-off-as-written
-taken-off-as-written = last-card.taken-off-as-written
-
--- taking off undoes adding
-pub taking-off-undoes : Taking-off-undoes
-taking-off-undoes = last-card.taking-off-undoes
-
--- an opened plan's calls see its bytes exactly if they have a layout and the sizes carried are those in them
-pub carries-exactly : Carries-exactly
-carries-exactly = opened.carries-exactly
-
--- an opening that was not refused carries its bytes
-pub opening-whole : Opening-whole
-opening-whole = opened.opening-whole
-
--- a refused opening has no bytes and no sizes, and is 12 in every call
-pub refused-opening-empty : Refused-opening-empty
-refused-opening-empty = opened.refused-opening-empty
-
-pub refused-opening : Refused-opening
-refused-opening = opened.refused-opening
-
--- so are sizes that differ from those in the bytes
-pub other-sizes : Other-sizes
-other-sizes = opened.other-sizes
-
--- every frame on an opened plan that was read arrives by the fewest links
-pub opened-frame-arrives : Opened-frame-arrives
-opened-frame-arrives = opened.opened-frame-arrives
-
--- a step and a walk on an opened plan answer as on its bytes, with their columns
-pub opened-step-own : Opened-step-own
-opened-step-own = opened.opened-step-own
-
-pub opened-walk-own : Opened-walk-own
-opened-walk-own = opened.opened-walk-own
-
--- three cards of an opened plan that was read get the answer of its bytes
-pub opened-conference-own : Opened-conference-own
-opened-conference-own = opened.opened-conference-own
-
--- an address is that part of the bytes that were opened, or empty
-pub opened-address-own : Opened-address-own
-opened-address-own = opened.opened-address-own
-
-pub opened-address-refused : Opened-address-refused
-opened-address-refused = opened.opened-address-refused

@@ -1,5 +1,5 @@
 -- All promises, each proved: what a reader looks for first. Here those of racks, of planning, reading and forwarding, of the C calls and of the
--- listing; those of the other calls on a plan stand in PlanCalls.antt. Assumes nothing.
+-- listing; those of the other calls on a plan stand in PlanCalls.antt and OpenedPlans.antt. Assumes nothing.
 use Rattle.rack.specs.Promises.{Hops-fewest, Connected-paths, No-ties, Card-zero-zeros, Addresses-embed, No-addresses}
 use Rattle.rack.specs.Promises.{Embedding-unique, Choices-as-rows, Columns-once, Few-columns, Sizes-in-range, Links-join, Odd-loop, File-as-wiring}
 use Rattle.rack.proofs.Promises as rack

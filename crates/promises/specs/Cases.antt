@@ -5,11 +5,11 @@ use lib.ListN.{take, set, replicate}
 use Rattle.rack.specs.Wiring.{Link, link, wiring}
 use Rattle.planner.specs.PlanBytes.{plan-bytes}
 use Rattle.promises.specs.Claims.{hex, Case, rack, file-of, plan-of}
-use Rattle.promises.specs.Claims.{file-is, refused, addresses, lists, plan-size, plan-is, read-as, walks, stuck, walk-answers}
+use Rattle.promises.specs.Claims.{file-is, refused, sums, addresses, lists, plan-size, plan-is, read-as, walks, stuck, walk-answers}
 use Rattle.promises.specs.Claims.{gets-stuck, differ-in, differ-nowhere, crosses, crosses-none, column-is}
 use Rattle.promises.specs.Claims.{counts-to, caller-answers, lent-answers, first-turn, second-turn, choice-answers}
 use Rattle.promises.specs.Claims.{confers, confers-nowhere, conference-answers}
-use Rattle.promises.specs.Claims.{adds, takes-off, adding-answers, taking-off-answers, adding-refused}
+use Rattle.promises.specs.Claims.{adds, takes-off, adding-answers, taking-off-answers, adding-refused, opened-answers}
 
 unfoldable pub ring-of-four : List Link
 ring-of-four = link 0 1 ∷ link 1 2 ∷ link 2 3 ∷ link 3 0 ∷ []
@@ -36,18 +36,18 @@ star-of-ten-plan =
 unfoldable pub required-cases : List Case
 required-cases =
     rack "P1: one card" 1 []
-    (refused 0 0 ∷ addresses ("" ∷ []) ∷ plan-size 6 ∷ lists "cards 1\nlinks 0\ncolumns 0\ncard 0 -\n" ∷ [])
+    (refused 0 0 ∷ sums 0 ∷ addresses ("" ∷ []) ∷ plan-size 6 ∷ lists "cards 1\nlinks 0\ncolumns 0\ncard 0 -\n" ∷ [])
     ∷ rack "P2: two cards apart" 2 [] (refused 9 1 ∷ lists "refused 9 card 1\n" ∷ [])
     ∷ rack "P3: a link doubled" 2 (link 0 1 ∷ link 1 0 ∷ []) (refused 8 1 ∷ lists "refused 8 link 1\n" ∷ [])
-    ∷ rack "P4: three in line" 3 (link 0 1 ∷ link 1 2 ∷ []) (refused 0 0 ∷ addresses ("00" ∷ "10" ∷ "11" ∷ []) ∷ [])
+    ∷ rack "P4: three in line" 3 (link 0 1 ∷ link 1 2 ∷ []) (refused 0 0 ∷ sums 4 ∷ addresses ("00" ∷ "10" ∷ "11" ∷ []) ∷ [])
     ∷ rack "P5: the ring of four" 4 ring-of-four
-    (refused 0 0 ∷ addresses ("00" ∷ "10" ∷ "11" ∷ "01" ∷ [])
+    (refused 0 0 ∷ sums 8 ∷ addresses ("00" ∷ "10" ∷ "11" ∷ "01" ∷ [])
     ∷ file-is (hex "04 00 04 00 00 00 01 00 02 00 03 00 01 00 02 00 03 00 00 00")
     ∷ plan-is (hex "04 00 04 00 02 00" ++ hex "00 00 01 00 02 00 03 00 01 00 02 00 03 00 00 00" ++ hex "00 01 03 02") ∷ plan-size 26
     ∷ read-as 0
     ∷ lists "cards 4\nlinks 4\ncolumns 2\ncard 0 00\ncard 1 10\ncard 2 11\ncard 3 01\n" ∷ [])
     ∷ rack "P6: the ring of six" 6 ring-of-six
-    (refused 0 0 ∷ addresses ("000" ∷ "100" ∷ "110" ∷ "111" ∷ "011" ∷ "001" ∷ []) ∷ [])
+    (refused 0 0 ∷ sums 27 ∷ addresses ("000" ∷ "100" ∷ "110" ∷ "111" ∷ "011" ∷ "001" ∷ []) ∷ [])
     ∷ rack "P7: the triangle" 3 (link 0 1 ∷ link 1 2 ∷ link 2 0 ∷ []) (refused 10 1 ∷ lists "refused 10 link 1\n" ∷ [])
     ∷ rack "P8: two by three" 5 (link 0 2 ∷ link 0 3 ∷ link 0 4 ∷ link 1 2 ∷ link 1 3 ∷ link 1 4 ∷ [])
     (refused 11 0 ∷ lists "refused 11\n" ∷ [])
@@ -198,21 +198,21 @@ conference-cases =
     ∷ plan-of "no layout and no card 4: 12 before 13 and 14" (take 25 ring-plan) (conference-answers 4 4 4 12 ∷ [])
     ∷ []
 
--- a card more and the last card taken off: the planner's bytes, and 1, 12 to 14, 16 and 17, the first that applies
+-- a card more and the last card taken off: the planner's bytes and the sum of hops, and 1, 12 to 14, 16 and 17, the first that applies
 unfoldable pub last-card-cases : List Case
 last-card-cases =
     rack "P1 with a card more; its only card stays" 1 []
-    (adds 0 (hex "02 00 01 00 01 00 00 00 01 00 00 01") ∷ adding-answers 1 16390 14 ∷ taking-off-answers 16390 17 ∷ [])
+    (adds 0 (hex "02 00 01 00 01 00 00 00 01 00 00 01") 1 ∷ adding-answers 1 16390 14 ∷ taking-off-answers 16390 17 ∷ [])
     ∷ rack "P4 without its last card, and with one more" 3 (link 0 1 ∷ link 1 2 ∷ [])
-    (takes-off (hex "02 00 01 00 01 00 00 00 01 00 00 01")
-    ∷ adds 1 (hex "04 00 03 00 03 00" ++ hex "00 00 01 00 01 00 01 00 02 00 03 00" ++ hex "00 01 03 05") ∷ [])
+    (takes-off (hex "02 00 01 00 01 00 00 00 01 00 00 01") 1
+    ∷ adds 1 (hex "04 00 03 00 03 00" ++ hex "00 00 01 00 01 00 01 00 02 00 03 00" ++ hex "00 01 03 05") 9 ∷ [])
     ∷ plan-of "P5 with a card at 2; its last card has two links" ring-plan
-    (adds 2 (hex "05 00 05 00 03 00" ++ hex "00 00 01 00 02 00 03 00 02 00 01 00 02 00 03 00 00 00 04 00" ++ hex "00 01 03 02 07")
+    (adds 2 (hex "05 00 05 00 03 00" ++ hex "00 00 01 00 02 00 03 00 02 00 01 00 02 00 03 00 00 00 04 00" ++ hex "00 01 03 02 07") 16
     ∷ taking-off-answers 16390 17 ∷ [])
-    ∷ rack "two cards, the link drawn from the last" 2 (link 1 0 ∷ []) (takes-off (hex "01 00 00 00 00 00") ∷ [])
+    ∷ rack "two cards, the link drawn from the last" 2 (link 1 0 ∷ []) (takes-off (hex "01 00 00 00 00 00") 0 ∷ [])
     ∷ rack "the last card's one link is not the last link" 3 (link 0 2 ∷ link 0 1 ∷ []) (taking-off-answers 16390 17 ∷ [])
-    ∷ plan-of "a star of nine with a card more: addresses of two bytes" star-of-nine-plan (adds 0 star-of-ten-plan ∷ [])
-    ∷ plan-of "a star of ten without its last card: addresses of one byte" star-of-ten-plan (takes-off star-of-nine-plan ∷ [])
+    ∷ plan-of "a star of nine with a card more: addresses of two bytes" star-of-nine-plan (adds 0 star-of-ten-plan 81 ∷ [])
+    ∷ plan-of "a star of ten without its last card: addresses of one byte" star-of-ten-plan (takes-off star-of-nine-plan 64 ∷ [])
     ∷ plan-of "another length lent: 1 before 14 and 17" ring-plan
     (adding-answers 4 16389 1 ∷ adding-answers 4 16391 1 ∷ taking-off-answers 16389 1 ∷ taking-off-answers 16391 1 ∷ [])
     ∷ plan-of "no layout and no card 4: 1 before 12, 12 before 14 and 17" (take 25 ring-plan)
@@ -223,7 +223,19 @@ last-card-cases =
     ∷ adding-refused 13 256 255 255 13 ∷ adding-refused 0 255 2047 254 0 ∷ [])
     ∷ []
 
+-- an opened plan's sizes and its sum: other sizes are 12, and another sum is 13 in the calls that test 13
+unfoldable pub opened-cases : List Case
+opened-cases =
+    rack "P1 and its sum, 0" 1 [] (opened-answers 1 0 0 0 0 ∷ opened-answers 1 0 0 1 13 ∷ [])
+    ∷ plan-of "P5's plan: a size or the sum one off" ring-plan
+    (opened-answers 4 4 2 8 0 ∷ opened-answers 4 4 2 7 13 ∷ opened-answers 4 4 2 9 13
+    ∷ opened-answers 3 4 2 8 12 ∷ opened-answers 4 5 2 8 12 ∷ opened-answers 4 4 1 8 12 ∷ [])
+    ∷ plan-of "another size and another sum: 12 before 13" ring-plan (opened-answers 5 4 2 9 12 ∷ opened-answers 0 0 0 0 12 ∷ [])
+    ∷ plan-of "P10's plan: 13 with any sum" (set ring-plan 24 0) (opened-answers 4 4 2 8 13 ∷ opened-answers 4 4 2 0 13 ∷ [])
+    ∷ plan-of "no layout: 12 with any sum" (take 25 ring-plan) (opened-answers 4 4 2 8 12 ∷ opened-answers 0 0 0 0 12 ∷ [])
+    ∷ []
+
 unfoldable pub cases : List Case
 cases =
     required-cases ++ size-cases ++ link-cases ++ rack-cases ++ plan-cases ++ call-cases ++ crossing-cases
-    ++ caller-cases ++ turn-cases ++ conference-cases ++ last-card-cases
+    ++ caller-cases ++ turn-cases ++ conference-cases ++ last-card-cases ++ opened-cases

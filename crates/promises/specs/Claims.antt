@@ -9,7 +9,7 @@ use Rattle.rack.specs.Limits.{most-callers, most-traffic, lent-plan}
 use Rattle.rack.specs.Lists.{all, filter, tabulate, differ, same}
 use Rattle.rack.specs.Wiring.{Link, wiring, link-at}
 use Rattle.rack.specs.WiringFile.{file-bytes, file-wiring, file-refusal}
-use Rattle.rack.specs.Columns.{column-count, address}
+use Rattle.rack.specs.Columns.{columns, column-count, address}
 use Rattle.rack.specs.PlanFile.{plan-cards, plan-columns, plan-wiring, plan-hamming}
 use Rattle.planner.specs.PlanBytes.{plan-bytes}
 use Rattle.reader.specs.Plan.{plan-refusal}
@@ -23,8 +23,11 @@ use Rattle.traffic.specs.declared.Traffic.{Traffic}
 use Rattle.callers.specs.Walking.{caller-walk-refusal, lent-walk-refusal}
 use Rattle.conference.specs.Conference.{conference, conference-refusal}
 use Rattle.pendant.specs.Pendant.{with-card, without-card}
+use Rattle.totals.specs.Totals.{total-hops, column-products}
+use Rattle.plan_totals.specs.Summed.{total-refusal}
 use Rattle.plan_changer.specs.Changing.{add-refusal}
 use Rattle.last_card.specs.Calls.{add-card-refusal, take-off-refusal}
+use Rattle.carried.specs.Carried.{carried-bytes, address-refusal-with, conference-refusal-with}
 use Rattle.text.specs.Codes.{codes}
 use Rattle.listing_text.specs.Listing.{column-digit, listing}
 
@@ -47,6 +50,8 @@ pub data Claim : Type 0 where
   file-is : List ℕ → Claim
   -- it is refused with this number and this link or card; 0 0 for accepted
   refused : (number at : ℕ) → Claim
+  -- the hops over all pairs of its cards add up to this, pair by pair, and by its columns
+  sums : (total : ℕ) → Claim
   -- its addresses, card by card, column 0 first
   addresses : List String → Claim
   -- its listing
@@ -84,14 +89,17 @@ pub data Claim : Type 0 where
   confers : (a b c : ℕ) → (card : ℕ) → Claim
   confers-nowhere : (a b c : ℕ) → Claim
   conference-answers : (a b c : ℕ) → (number : ℕ) → Claim
-  -- with a card more on this card the plan is this; without its last card
-  adds : (card : ℕ) → (new : List ℕ) → Claim
-  takes-off : (new : List ℕ) → Claim
+  -- with a card more on this card the plan is this, and so much its sum of hops; without its last card
+  adds : (card : ℕ) → (new : List ℕ) → (total : ℕ) → Claim
+  takes-off : (new : List ℕ) → (total : ℕ) → Claim
   -- a card more, and the last card taken off, into so many lent bytes, is answered with this number
   adding-answers : (card room number : ℕ) → Claim
   taking-off-answers : (room number : ℕ) → Claim
   -- so is a card more on a plan whose reading gave a number, n and m
   adding-refused : (before n m : ℕ) → (card number : ℕ) → Claim
+  -- with these sizes and this sum carried, reading the plan, card 0's address, its conference with itself and a card more on it are
+  -- answered with this number
+  opened-answers : (n m k total : ℕ) → (number : ℕ) → Claim
 
 -- a walk ended so, after so many hops, with these cards met
 unfoldable pub ends-so : (arrived hops : ℕ) → (met : List ℕ) → Walk → Bool
@@ -114,9 +122,14 @@ turns-of x y = set (set (replicate most-callers 0) 3 x) 5 y
 unfoldable pub chooses : (first : Bool) → (f g ts ts-now : List ℕ) → Bool
 chooses b f g ts us = eqb (choice-refusal f g ts) 0 && not (differ b (first-goes f g ts)) && same eqb (turns-after f g ts) us
 
+-- the sum of the wiring inside a plan
+unfoldable pub own-total : (plan : List ℕ) → ℕ
+own-total ps = total-hops (plan-wiring ps)
+
 unfoldable pub claim-holds : (file plan : List ℕ) → Claim → Bool
 claim-holds bs ps (file-is xs) = same eqb bs xs
 claim-holds bs ps (refused n i) = eqb (file-refusal bs .number) n && eqb (file-refusal bs .at) i
+claim-holds bs ps (sums t) = eqb (total-hops (file-wiring bs)) t && eqb (column-products (columns (file-wiring bs))) t
 claim-holds bs ps (addresses rows) =
     let w = file-wiring bs in
     same (same eqb) (tabulate (w .cards) (λ c. tabulate (column-count w) (column-digit (address w c)))) (map codes rows)
@@ -146,11 +159,19 @@ claim-holds bs ps (confers a b c x) =
     eqb (conference-refusal ps a b c) 0 && ltb x (plan-cards ps) && eqb (conference (plan-wiring ps) a b c) x
 claim-holds bs ps (confers-nowhere a b c) = eqb (conference-refusal ps a b c) 0 && eqb (conference (plan-wiring ps) a b c) (plan-cards ps)
 claim-holds bs ps (conference-answers a b c n) = eqb (conference-refusal ps a b c) n
-claim-holds bs ps (adds c new) = eqb (add-card-refusal ps c lent-plan) 0 && same eqb (plan-bytes (with-card (plan-wiring ps) c)) new
-claim-holds bs ps (takes-off new) = eqb (take-off-refusal ps lent-plan) 0 && same eqb (plan-bytes (without-card (plan-wiring ps))) new
-claim-holds bs ps (adding-answers c room n) = eqb (add-card-refusal ps c room) n
-claim-holds bs ps (taking-off-answers room n) = eqb (take-off-refusal ps room) n
+claim-holds bs ps (adds c new t) =
+    let v = with-card (plan-wiring ps) c in
+    eqb (add-card-refusal ps (own-total ps) c lent-plan) 0 && same eqb (plan-bytes v) new && eqb (total-hops v) t
+claim-holds bs ps (takes-off new t) =
+    let v = without-card (plan-wiring ps) in
+    eqb (take-off-refusal ps (own-total ps) lent-plan) 0 && same eqb (plan-bytes v) new && eqb (total-hops v) t
+claim-holds bs ps (adding-answers c room n) = eqb (add-card-refusal ps (own-total ps) c room) n
+claim-holds bs ps (taking-off-answers room n) = eqb (take-off-refusal ps (own-total ps) room) n
 claim-holds bs ps (adding-refused x n m c number) = eqb (add-refusal x n m c) number
+claim-holds bs ps (opened-answers n m k t x) =
+    let seen = carried-bytes ps n m k in
+    eqb (total-refusal seen t) x && eqb (address-refusal-with seen t 0) x && eqb (conference-refusal-with seen t 0 0 0) x
+    && eqb (add-card-refusal seen t 0 lent-plan) x
 
 -- ROWS: a name, a wiring file, a plan file, and claims of the two
 pub data Case : Type 0 where

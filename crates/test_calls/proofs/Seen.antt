@@ -6,7 +6,8 @@ use Prim.Native.Nat.{ℕ}
 use borrow.Author.Tests.{eq-eqb, ne-eqb}
 use Rattle.rack.proofs.Logic.{by-eq}
 use Rattle.reader.specs.Plan.{layout-holds, plan-refusal}
-use Rattle.opened.specs.Opening.{carries, carried-bytes, opened-bytes, Opening-says}
+use Rattle.carried.specs.Carried.{carries, carried-bytes}
+use Rattle.opened.specs.Opening.{opened-bytes, Opening-says}
 use Rattle.opened.specs.Promises.{Opening-whole, Refused-opening-empty}
 use Rattle.opened.specs.declared.Opened.{Opened}
 use Rattle.opened.proofs.Promises.{opening-whole, refused-opening-empty}
@@ -22,7 +23,7 @@ unfolding opened-for Opening-whole Refused-opening-empty
 opened-seen ps at p s = by-eq (plan-refusal ps) 0 whole none
   where
     whole : plan-refusal ps ≡ 0 → opened-bytes p ≡ opened-for ps
-    whole e = opening-whole ps at p s (s .number ∙ e) .2 ∙ sym (rw (eq-eqb (plan-refusal ps) 0 e) refl)
+    whole e = opening-whole ps at p s (s .number ∙ e) .3 ∙ sym (rw (eq-eqb (plan-refusal ps) 0 e) refl)
 
     none : plan-refusal ps ≢ 0 → opened-bytes p ≡ opened-for ps
     none h =

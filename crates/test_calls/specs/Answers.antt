@@ -17,7 +17,8 @@ use Rattle.crossing.specs.declared.FrameWalk.{FrameWalk}
 use Rattle.crossing.specs.declared.places.FirstColumn.{FirstColumn}
 use Rattle.crossing.specs.declared.places.Places.{Places}
 use Rattle.conference.specs.declared.Conference.{Conference}
-use Rattle.plan_changer.specs.declared.NewPlan.{NewPlan}
+use Rattle.plan_totals.specs.declared.Summed.{Summed}
+use Rattle.last_card.specs.declared.SummedPlan.{SummedPlan}
 use Rattle.traffic.specs.declared.Traffic.{Traffic}
 use Rattle.callers.specs.declared.CallerWalk.{CallerWalk}
 
@@ -57,8 +58,11 @@ caller-walk-in x ys t = record { number = x; arrived = getD ys 0 0; hops = getD 
 abbrev pub conference-in : (number : ℕ) → List ℕ → Conference
 conference-in x ys = record { number = x; found = getD ys 0 0; card = getD ys 1 0 }
 
-abbrev pub new-plan-in : (number : ℕ) → List ℕ → NewPlan
-new-plan-in x ys = record { number = x; length = getD ys 0 0 }
+abbrev pub summed-in : (number : ℕ) → List ℕ → Summed
+summed-in x ys = record { number = x; cards = getD ys 0 0; links = getD ys 1 0; columns = getD ys 2 0; total = getD ys 3 0 }
+
+abbrev pub summed-plan-in : (number : ℕ) → List ℕ → SummedPlan
+summed-plan-in x ys = record { number = x; length = getD ys 0 0; total = getD ys 1 0 }
 
 -- just as many numbers are lent as the answer has fields, and the call says this; or not as many, and it is 1 and all that is lent is
 -- as it was

@@ -1,13 +1,14 @@
 // Answers taken apart for the tests: the number is returned, the other fields go into lent numbers, in their order.
 ghost use mathlib.Core.Path.{_≡_};
 ghost use lib.ListN.{length, replicate};
-ghost use Rattle.test_calls.specs.Answers.{answer-in, caller-walk-in, conference-in, frame-step-in, frame-walk-in, lent-traffic, new-plan-in, places-in, sizes-in};
+ghost use Rattle.test_calls.specs.Answers.{answer-in, caller-walk-in, conference-in, frame-step-in, frame-walk-in, lent-traffic, places-in, sizes-in, summed-in, summed-plan-in};
 use callers::CallerWalk;
 use conference::Conference;
 use crossing::FrameStep;
 use crossing::FrameWalk;
 use crossing::places::Places;
-use plan_changer::NewPlan;
+use last_card::SummedPlan;
+use plan_totals::Summed;
 use planner::Answer;
 use rack::limits::MOST_CALLERS;
 use reader::layout::Sizes;
@@ -136,11 +137,20 @@ pub fn put_conference(r: Conference, answer: &mut [u32]) -> u32
     r.number
 }
 
-// The new plan's length.
-pub fn put_new_plan(p: NewPlan, answer: &mut [u32]) -> u32
-    requires { ⌜ length (now answer) ≡ 1 ⌝ }
-    ensures { λ r. ⌜ new-plan-in r (now (answer .exit)) ≡ p ⌝ }
+// The three sizes and the sum.
+pub fn put_summed(s: Summed, answer: &mut [u32]) -> u32
+    requires { ⌜ length (now answer) ≡ 4 ⌝ }
+    ensures { λ r. ⌜ summed-in r (now (answer .exit)) ≡ s ⌝ }
 {
-    put_fields(&[p.length], answer);
+    put_fields(&[s.cards, s.links, s.columns, s.total], answer);
+    s.number
+}
+
+// The new plan's length and its sum.
+pub fn put_summed_plan(p: SummedPlan, answer: &mut [u32]) -> u32
+    requires { ⌜ length (now answer) ≡ 2 ⌝ }
+    ensures { λ r. ⌜ summed-plan-in r (now (answer .exit)) ≡ p ⌝ }
+{
+    put_fields(&[p.length, p.total], answer);
     p.number
 }

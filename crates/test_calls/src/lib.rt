@@ -6,15 +6,17 @@ ghost use Rattle.planner.specs.Planning.{Plan-says};
 ghost use Rattle.reader.specs.Reading.{Address-says, address-refusal};
 ghost use Rattle.crossing.specs.Crossing.{Frame-step-says, Frame-walk-says};
 ghost use Rattle.conference.specs.Conference.{Conference-says};
+ghost use Rattle.plan_totals.specs.Summed.{Summed-says};
 ghost use Rattle.last_card.specs.Calls.{Add-says, Take-off-says};
 ghost use Rattle.listing_text.specs.Listing.{Listing-says};
-ghost use Rattle.test_calls.specs.Answers.{Answered, Places-say, answer-in, conference-in, counts, frame-step-in, frame-walk-in, new-plan-in};
+ghost use Rattle.test_calls.specs.Answers.{Answered, Places-say, answer-in, conference-in, counts, frame-step-in, frame-walk-in, summed-in, summed-plan-in};
 use answers::put_answer;
 use answers::put_conference;
-use answers::put_new_plan;
 use answers::put_no_places;
 use answers::put_places;
 use answers::put_step;
+use answers::put_summed;
+use answers::put_summed_plan;
 use answers::put_walk;
 use conference::conference_card;
 use crossing::places::plan_places;
@@ -25,13 +27,14 @@ use forwarder::walk::Tally;
 use last_card::add_card;
 use last_card::take_card_off;
 use listing_text::listing_text;
+use plan_totals::read_summed;
 use planner::plan_rack;
 use rack::ones::ones_table;
 use reader::read::card_address;
 
 mod answers;
 pub mod by_caller;
-pub mod carried;
+pub mod carrying;
 pub mod opening;
 
 // Planning: 1 to 11. The fields are the link or card, and the columns.
@@ -146,29 +149,46 @@ pub extern "C" fn test_conference_card(
     put_conference(conference_card(plan, a, b, c), answer)
 }
 
-// A card more: 1, 12, 13, 14, 16. The field is the new plan's length.
+// Reading with the sum of hops: 1, 12, 13. The fields are the three sizes and the sum.
+#[no_mangle]
+pub extern "C" fn test_read_summed(plan: &[u8], answer: &mut [u32]) -> u32
+    ensures { λ r. ⌜ Answered 4 r (now (answer .entry)) (now (answer .exit)) Unit (Summed-says (now (plan .entry)) (summed-in r (now (answer .exit)))) ⌝ }
+{
+    if answer.len() != 4 {
+        return 1;
+    }
+    put_summed(read_summed(plan), answer)
+}
+
+// A card more: 1, 12, 13, 14, 16. The fields are the new plan's length and its sum.
 #[no_mangle]
 pub extern "C" fn test_add_card(
     plan: &[u8],
+    total: u32,
     card: u32,
     output: &mut [u8],
     answer: &mut [u32],
 ) -> u32
-    ensures { λ r. ⌜ Answered 1 r (now (answer .entry)) (now (answer .exit)) (now (output .exit) ≡ now (output .entry)) (Add-says (now (plan .entry)) card (new-plan-in r (now (answer .exit))) (now (output .entry)) (now (output .exit))) ⌝ }
+    ensures { λ r. ⌜ Answered 2 r (now (answer .entry)) (now (answer .exit)) (now (output .exit) ≡ now (output .entry)) (Add-says (now (plan .entry)) total card (summed-plan-in r (now (answer .exit))) (now (output .entry)) (now (output .exit))) ⌝ }
 {
-    if answer.len() != 1 {
+    if answer.len() != 2 {
         return 1;
     }
-    put_new_plan(add_card(plan, card, output), answer)
+    put_summed_plan(add_card(plan, total, card, output), answer)
 }
 
-// The last card taken off: 1, 12, 13, 17. The field is the new plan's length.
+// The last card taken off: 1, 12, 13, 17. The fields are the new plan's length and its sum.
 #[no_mangle]
-pub extern "C" fn test_take_card_off(plan: &[u8], output: &mut [u8], answer: &mut [u32]) -> u32
-    ensures { λ r. ⌜ Answered 1 r (now (answer .entry)) (now (answer .exit)) (now (output .exit) ≡ now (output .entry)) (Take-off-says (now (plan .entry)) (new-plan-in r (now (answer .exit))) (now (output .entry)) (now (output .exit))) ⌝ }
+pub extern "C" fn test_take_card_off(
+    plan: &[u8],
+    total: u32,
+    output: &mut [u8],
+    answer: &mut [u32],
+) -> u32
+    ensures { λ r. ⌜ Answered 2 r (now (answer .entry)) (now (answer .exit)) (now (output .exit) ≡ now (output .entry)) (Take-off-says (now (plan .entry)) total (summed-plan-in r (now (answer .exit))) (now (output .entry)) (now (output .exit))) ⌝ }
 {
-    if answer.len() != 1 {
+    if answer.len() != 2 {
         return 1;
     }
-    put_new_plan(take_card_off(plan, output), answer)
+    put_summed_plan(take_card_off(plan, total, output), answer)
 }

@@ -1,6 +1,6 @@
--- `opened::open_plan` meets its contract: a walk of its MIR, by hand. The plan is read, its bytes or none of them are taken by
--- the number, and an opened plan is made of both.
--- The machine values that the calls return are rewritten to those of the sizes and of the slice, so that the sizes' fields can be read.
+-- `opened::open_plan` meets its contract: a walk of its MIR, by hand. The plan is read and its hops are summed, its bytes or none of them are
+-- taken by the number, and an opened plan is made of both.
+-- The machine values that the calls return are rewritten to those of what was read and of the slice, so that the fields can be read.
 -- Assumes nothing.
 use mathlib.Core.Path.{_≡_, refl, ap, subst}
 use mathlib.Core.Bool.{cond}
@@ -45,23 +45,23 @@ use denote.Exit.{yes}
 use denote.Triple.Clauses.{ensured, lasts}
 use Rattle.rack.specs.Buffers.{Slice-is}
 use Rattle.reader.specs.Promises.{Measured}
-use Rattle.reader.specs.Reading.{Read-says}
-use Rattle.reader.specs.declared.layout.Sizes.{Sizes}
-use Rattle.reader.proofs.layout.Sizes as S
-use Rattle.reader.proofs.layout.Sizes.Laws as S′
-use Rattle.reader.proofs.read.read_plan as reads
-use Rattle.reader.proofs.read.read_plan.Symbol as reads-def
-use Rattle.reader.proofs.read.read_plan.Symbol.{name as #reader·read·read-plan}
-use Rattle.reader.proofs.read.read_plan.Met as reads-thm
+use Rattle.plan_totals.specs.Summed.{Summed-says}
+use Rattle.plan_totals.specs.declared.Summed.{Summed}
+use Rattle.plan_totals.proofs.Summed as S
+use Rattle.plan_totals.proofs.Summed.Laws as S′
+use Rattle.plan_totals.proofs.read_summed as reads
+use Rattle.plan_totals.proofs.read_summed.Symbol as reads-def
+use Rattle.plan_totals.proofs.read_summed.Symbol.{name as #plan-totals·read-summed}
+use Rattle.plan_totals.proofs.read_summed.Met as reads-thm
+use Rattle.carried.proofs.bytes_unless as unless
+use Rattle.carried.proofs.bytes_unless.Symbol as unless-def
+use Rattle.carried.proofs.bytes_unless.Symbol.{name as #carried·bytes-unless}
+use Rattle.carried.proofs.bytes_unless.Met as unless-thm
 use Rattle.opened.specs.declared.Opened.{Opened}
 use Rattle.opened.proofs.Opened as T
 use Rattle.opened.proofs.Opened.Laws as T′
-use Rattle.opened.proofs.Carrying.{opening-says}
+use Rattle.opened.proofs.Openings.{opening-says}
 use Rattle.opened.proofs.Held.{number-owned}
-use Rattle.opened.proofs.carried.bytes_unless as unless
-use Rattle.opened.proofs.carried.bytes_unless.Symbol as unless-def
-use Rattle.opened.proofs.carried.bytes_unless.Symbol.{name as #opened·carried·bytes-unless}
-use Rattle.opened.proofs.carried.bytes_unless.Met as unless-thm
 use Rattle.opened.proofs.open_plan.Key.{name as #opened·open-plan}
 use Rattle.opened.proofs.open_plan as opens
 use Rattle.opened.proofs.open_plan.Statement as stated
@@ -97,23 +97,23 @@ module _ {M : Type 1} (𝓤 : URA M) (H : Heap 𝓤) (A : Atoms 𝓤) (W : Given
   abbrev Own : Fml
   Own = R .own s (v ∷ [])
 
-  abbrev made : RefT (List ℕ) → Sizes → Opened
-  made t r = record { bytes = t; cards = r .cards; links = r .links; columns = r .columns; number = r .number }
+  abbrev made : RefT (List ℕ) → Summed → Opened
+  made t r = record { bytes = t; cards = r .cards; links = r .links; columns = r .columns; number = r .number; total = r .total }
 
   -- what each callee says
-  abbrev Is-read : Sizes → Type 0
-  Is-read r = Read-says (now s) r
+  abbrev Is-read : Summed → Type 0
+  Is-read r = Summed-says (now s) r
 
-  abbrev Is-promised : Sizes → Type 0
+  abbrev Is-promised : Summed → Type 0
   Is-promised r = r .number ≡ 0 → Measured (now s)
 
-  abbrev Is-part : Sizes → RefT (List ℕ) → Type 0
+  abbrev Is-part : Summed → RefT (List ℕ) → Type 0
   Is-part r t = Slice-is (s .ptr) (cond (eqb (r .number) 0) (now s) []) t
 
   abbrev to-reads : Reads 𝓤 H A mem run .Ghost
   to-reads = (((κ, tt), (q, tt), tt, (s, tt), (v ∷ [], tt)), tt)
 
-  abbrev to-unless : Sizes → Unless 𝓤 H A mem run .Ghost
+  abbrev to-unless : Summed → Unless 𝓤 H A mem run .Ghost
   to-unless r = (((κ, tt), (q, tt), tt, (s, (r .number, tt)), (v ∷ [], (vint w32 (r .number) ∷ [], tt))), tt)
 
   goes-reads : ent 𝓤 (onEntry 𝓤 H A opens.signature (κ, tt) (q, tt) (s, tt) (v ∷ [], tt)) (sep 𝓤 (Reads 𝓤 H A mem run .pre to-reads) (sem 𝓤 H A Own))
@@ -123,7 +123,7 @@ module _ {M : Type 1} (𝓤 : URA M) (H : Heap 𝓤) (A : Atoms 𝓤) (W : Given
       move ! (0 ∷ 2 ∷ []) $ fjoin ! $ move ! (2 ∷ 0 ∷ []) $ use2 W (raw (Reads 𝓤 H A mem run .pre to-reads))
       (qed W ((‵ (flft κ q) ⊛ ‵ ftrue) ∷ ‵ (owns (R ∷ []) (s, tt) (v ∷ [], tt)) ∷ []) ∵ join ! $ frame ! $ done !) $ frame ! $ done !
 
-  goes-unless : (r : Sizes) → r .number < 2 ^ 32
+  goes-unless : (r : Summed) → r .number < 2 ^ 32
       → ent 𝓤 (⋆ 𝓤 H A ((‵ (flft κ q) ⊛ ‵ ftrue) ∷ ‵ Own ∷ [])) (sep 𝓤 (Unless 𝓤 H A mem run .pre (to-unless r)) (sem 𝓤 H A Own))
   goes-unless r h =
       qed W ((‵ (flft κ q) ⊛ ‵ ftrue) ∷ ‵ Own ∷ []) ∵
@@ -135,47 +135,48 @@ module _ {M : Type 1} (𝓤 : URA M) (H : Heap 𝓤) (A : Atoms 𝓤) (W : Given
       frame ! $ done !
 
   -- the clauses alone: no callee has a `&mut`, so what is said of last values is dropped
-  reads-said : (r : Sizes) → ent 𝓤 (ensured 𝓤 H A reads.ended (reads.clauses 𝓤 H A mem run) (κ, tt) (s, tt) tt r)
+  reads-said : (r : Summed) → ent 𝓤 (ensured 𝓤 H A reads.ended (reads.clauses 𝓤 H A mem run) (κ, tt) (s, tt) tt r)
       (sep 𝓤 (fact 𝓤 (Is-read r)) (fact 𝓤 (Is-promised r)))
   reads-said r = exE 𝓤 _ (λ ws. snd∗ 𝓤 (sem 𝓤 H A (lasts reads.ended (κ, tt) (s, tt) ws)) (sep 𝓤 (fact 𝓤 (Is-read r)) (fact 𝓤 (Is-promised r))))
 
-  unless-said : (r : Sizes) (t : RefT (List ℕ))
+  unless-said : (r : Summed) (t : RefT (List ℕ))
       → ent 𝓤 (ensured 𝓤 H A unless.ended (unless.clauses 𝓤 H A mem run) (κ, tt) (s, (r .number, tt)) tt t) (fact 𝓤 (Is-part r t))
   unless-said r t = exE 𝓤 _ (λ ws. snd∗ 𝓤 (sem 𝓤 H A (lasts unless.ended (κ, tt) (s, (r .number, tt)) ws)) (fact 𝓤 (Is-part r t)))
 
-  exits : (t : RefT (List ℕ)) (r : Sizes) → Is-part r t → Is-read r → Is-promised r → r .number < 2 ^ 32 → r .cards < 2 ^ 32 → r .links < 2 ^ 32
-      → r .columns < 2 ^ 32
+  exits : (t : RefT (List ℕ)) (r : Summed) → Is-part r t → Is-read r → Is-promised r → r .number < 2 ^ 32 → r .cards < 2 ^ 32 → r .links < 2 ^ 32
+      → r .columns < 2 ^ 32 → r .total < 2 ^ 32
       → ent 𝓤 (⋆ 𝓤 H A (‵ (R .own t (sliceVal (t .ptr) (length (t .now)) ∷ [])) ∷ (‵ (flft κ q) ⊛ ‵ ftrue) ∷ ‵ Own ∷ []))
       (Post (T′.lowered (made t r)))
-  exits t r e e′ f h₀ h₁ h₂ h₃ =
+  exits t r e e′ f h₀ h₁ h₂ h₃ h₄ =
       qed W (‵ (R .own t (sliceVal (t .ptr) (length (t .now)) ∷ [])) ∷ (‵ (flft κ q) ⊛ ‵ ftrue) ∷ ‵ Own ∷ []) ∵
       suffices ! _
       (ends-at 𝓤 H A opens.ended stayed (opens.clauses 𝓤 H A mem run) W (((κ, tt), (q, tt), tt, (s, tt), (v ∷ [], tt)), tt) (T′.lowered (made t r))
       (made t r) (tt, tt) (tt, tt)) $
-      says ! (opening-says (now s) (s .ptr) r (made t r) e′ f refl e refl refl refl) $
+      says ! (opening-says (now s) (s .ptr) r (made t r) e′ f refl e refl refl refl refl) $
       move ! (1 ∷ []) $ frame ! $ nothing ! $ move ! (2 ∷ 0 ∷ []) $ fjoin ! $ frame ! $
       -- [what t owns]: what the fields own together is what the struct owns
-      nothing ! $ number-owned ! (r .number) h₀ $
+      nothing ! $ number-owned ! (r .total) h₄ $
+      number-owned ! (r .number) h₀ $
       number-owned ! (r .columns) h₃ $
       number-owned ! (r .links) h₂ $
       number-owned ! (r .cards) h₁ $ move ! (1 ∷ 0 ∷ []) $ fjoin ! $
-      by ! (own-shut 𝓤 H A W (T.the-type α) (T′.the-laws α) (t, (r .cards, (r .links, (r .columns, (r .number, tt))))))
+      by ! (own-shut 𝓤 H A W (T.the-type α) (T′.the-laws α) (t, (r .cards, (r .links, (r .columns, (r .number, (r .total, tt)))))))
 
-  module _ (C : Calls 𝓤 H) (Λ : Loops 𝓤 H) (fm : FmC 𝓤 H (W .laws) C) (known-reads : Triple 𝓤 (C #reader·read·read-plan) (Reads 𝓤 H A mem run))
-      (known-unless : Triple 𝓤 (C #opened·carried·bytes-unless) (Unless 𝓤 H A mem run)) where
+  module _ (C : Calls 𝓤 H) (Λ : Loops 𝓤 H) (fm : FmC 𝓤 H (W .laws) C) (known-reads : Triple 𝓤 (C #plan-totals·read-summed) (Reads 𝓤 H A mem run))
+      (known-unless : Triple 𝓤 (C #carried·bytes-unless) (Unless 𝓤 H A mem run)) where
     walk : Is R s (v ∷ []) → ent 𝓤 (onEntry 𝓤 H A opens.signature (κ, tt) (q, tt) (s, tt) (v ∷ [], tt)) (WpFn 𝓤 H C Λ code.function (v ∷ []) Post)
     walk p =
         qed W (raw (onEntry 𝓤 H A opens.signature (κ, tt) (q, tt) (s, tt) (v ∷ [], tt)) ∷ []) ∵ enter ! C Λ code.function (v ∷ []) _ $
         alloc1 ! (λ l₀. alloc1 ! (λ l₁. alloc1 ! (λ l₂. alloc1 ! (λ l₃. alloc0 ! $ params1 ! $
         pass1 ! (init ! 4 refl (shr-slice-lawful 𝓤 H A W (named 0) κ u8 .typed s (v ∷ []) p .0)) $ pass0 ! $
-        -- the sizes, into _2
+        -- what was read, into _2
         move ! (8 ∷ []) $ use1 W (raw (Reads 𝓤 H A mem run .pre to-reads) ⊛ ‵ Own) goes-reads $ split ! $
         calls-at ! fm (Reads 𝓤 H A mem run) known-reads to-reads (and-then ! (load ! (from ! (stop !)) (look ! 6 refl)) (no-more !)) (λ u.
-        use1 W (later (some (λ (r : Sizes). ((‵ (flft κ q) ⊛ ‵ ftrue) ⊛ ‵ (S.the-row .own r (u ∷ [])))
+        use1 W (later (some (λ (r : Summed). ((‵ (flft κ q) ⊛ ‵ ftrue) ⊛ ‵ (S.the-row .own r (u ∷ [])))
         ⊛ raw (ensured 𝓤 H A reads.ended (reads.clauses 𝓤 H A mem run) (κ, tt) (s, tt) tt r)))) (id⊢ 𝓤 _) $ await ! tt $ pick ! (λ r.
         split ! $ move ! (1 ∷ []) $ use1 W (raw (fact 𝓤 (Is-read r)) ⊛ raw (fact 𝓤 (Is-promised r))) (reads-said r) $ split ! $
         heard ! (Is-read r) (λ e. heard ! (Is-promised r) (λ f. split ! $ move ! (1 ∷ []) $
-        -- [what the sizes own; the token; what s owns; room for _3; …; room for _2; …; _1; …; room for _0; …]
+        -- [what was read; the token; what s owns; room for _3; …; room for _2; …; _1; …; room for _0; …]
         peeks ! S.the-row (Is S.the-row) (shows 𝓤 H A S.the-row) r (u ∷ []) (λ is.
         land ! (from ! (stop !)) (init ! 5 refl (LL.lawful S.the-type S′.the-laws 𝓤 H A W .typed r _ is .0)) $
         rewrite ! 5 (λ (w : Val). ‵ (fat fullShare S′.mir l₂ 0 w)) (ap only (LL.tells S.the-type S′.the-laws r _ is)) refl $ drop ! $
@@ -197,7 +198,8 @@ module _ {M : Type 1} (𝓤 : URA M) (H : Heap 𝓤) (A : Atoms 𝓤) (W : Given
         (and-then ! (load ! (from ! (fld ! refl (stop !))) (look-in ! 5 (sub ! 1 refl (whole !))))
         (and-then ! (load ! (from ! (fld ! refl (stop !))) (look-in ! 5 (sub ! 2 refl (whole !))))
         (and-then ! (load ! (from ! (fld ! refl (stop !))) (look-in ! 5 (sub ! 3 refl (whole !))))
-        (and-then ! (load ! (from ! (fld ! refl (stop !))) (look-in ! 5 (sub ! 0 refl (whole !)))) (no-more !))))))) (from ! (stop !))
+        (and-then ! (load ! (from ! (fld ! refl (stop !))) (look-in ! 5 (sub ! 0 refl (whole !))))
+        (and-then ! (load ! (from ! (fld ! refl (stop !))) (look-in ! 5 (sub ! 4 refl (whole !)))) (no-more !)))))))) (from ! (stop !))
         (init ! 9 refl (
           tt,
           (
@@ -208,7 +210,10 @@ module _ {M : Type 1} (𝓤 : URA M) (H : Heap 𝓤) (A : Atoms 𝓤) (W : Given
                 record { fits = LL.owed S.the-type S′.the-laws r _ is .1 .1 .0 .1 },
                 (
                   record { fits = LL.owed S.the-type S′.the-laws r _ is .1 .1 .1 .0 .1 },
-                  (record { fits = LL.owed S.the-type S′.the-laws r _ is .0 .1 }, tt),
+                  (
+                    record { fits = LL.owed S.the-type S′.the-laws r _ is .0 .1 },
+                    (record { fits = LL.owed S.the-type S′.the-laws r _ is .1 .1 .1 .1 .0 .1 }, tt),
+                  ),
                 ),
               ),
             ),
@@ -217,11 +222,12 @@ module _ {M : Type 1} (𝓤 : URA M) (H : Heap 𝓤) (A : Atoms 𝓤) (W : Given
         returns ! (look ! 9 refl) $ forget ! 3 refl $ forget ! 5 refl $ forget ! 7 refl $ forget ! 9 refl $
         move ! (9 ∷ 10 ∷ []) $ free1 ! $ move ! (7 ∷ 8 ∷ []) $ free1 ! $ move ! (5 ∷ 6 ∷ []) $ free1 ! $ move ! (3 ∷ 4 ∷ []) $ free1 ! $ free0 ! $
         by ! (exits t r e′ e f (LL.owed S.the-type S′.the-laws r _ is .0 .1) (LL.owed S.the-type S′.the-laws r _ is .1 .0 .1)
-        (LL.owed S.the-type S′.the-laws r _ is .1 .1 .0 .1) (LL.owed S.the-type S′.the-laws r _ is .1 .1 .1 .0 .1)))))))))))))))
+        (LL.owed S.the-type S′.the-laws r _ is .1 .1 .0 .1) (LL.owed S.the-type S′.the-laws r _ is .1 .1 .1 .0 .1)
+        (LL.owed S.the-type S′.the-laws r _ is .1 .1 .1 .1 .0 .1)))))))))))))))
 
 module _ {M : Type 1} (𝓤 : URA M) (H : Heap 𝓤) (A : Atoms 𝓤) (W : Given 𝓤 H A) (mem : Memory → SProp 𝓤) (run : Routine → Fun 𝓤) where
-  open-walks : (C : Calls 𝓤 H) (Λ : Loops 𝓤 H) → FmC 𝓤 H (W .laws) C → Triple 𝓤 (C #reader·read·read-plan) (Reads 𝓤 H A mem run)
-      → Triple 𝓤 (C #opened·carried·bytes-unless) (Unless 𝓤 H A mem run) → Walks 𝓤 H A opens.ended stayed (WpFn 𝓤 H C Λ code.function)
+  open-walks : (C : Calls 𝓤 H) (Λ : Loops 𝓤 H) → FmC 𝓤 H (W .laws) C → Triple 𝓤 (C #plan-totals·read-summed) (Reads 𝓤 H A mem run)
+      → Triple 𝓤 (C #carried·bytes-unless) (Unless 𝓤 H A mem run) → Walks 𝓤 H A opens.ended stayed (WpFn 𝓤 H C Λ code.function)
       (opens.clauses 𝓤 H A mem run)
   open-walks C Λ fm known-reads known-unless =
       walked 𝓤 H A opens.ended stayed (opens.clauses 𝓤 H A mem run) (WpFn 𝓤 H C Λ code.function) (λ κs. (slice-vals, tt))
@@ -229,7 +235,7 @@ module _ {M : Type 1} (𝓤 : URA M) (H : Heap 𝓤) (A : Atoms 𝓤) (W : Given
       (λ κs qs bounds a g are. via 𝓤 _ (fst∗ 𝓤 _ (emp 𝓤)) (walk 𝓤 H A W mem run (κs .0) (qs .0) (a .0) C Λ fm known-reads known-unless (are .0)))
 
 open-meets : {M : Type 1} (𝓤 : URA M) (H : Heap 𝓤) (A : Atoms 𝓤) (W : Given 𝓤 H A) (mem : Memory → SProp 𝓤) (run : Routine → Fun 𝓤) (𝓣 : Tables 𝓤 H)
-    → Triple 𝓤 (𝓣 .C #reader·read·read-plan) (Reads 𝓤 H A mem run) → Triple 𝓤 (𝓣 .C #opened·carried·bytes-unless) (Unless 𝓤 H A mem run)
+    → Triple 𝓤 (𝓣 .C #plan-totals·read-summed) (Reads 𝓤 H A mem run) → Triple 𝓤 (𝓣 .C #carried·bytes-unless) (Unless 𝓤 H A mem run)
     → Meets 𝓤 H A opens.signature (WpFn 𝓤 H (𝓣 .C) (𝓣 .Λ) code.function) (opens.spec 𝓤 H A mem run)
 open-meets 𝓤 H A W mem run 𝓣 known-reads known-unless =
     walk-meets 𝓤 H A opens.ended stayed W (goes-none-slice 𝓤 H A W 1 (0 ∷ []) tt (plain (λ _. u8)) yes, tt) (opens.clauses 𝓤 H A mem run)
@@ -242,7 +248,7 @@ open-plan-spec 𝓤 H 𝓜 𝓖 𝓡 =
     entered 𝓤 H (tripleOf 𝓤 H (𝓖 .A) opens.signature (opens.spec 𝓤 H (𝓖 .A) (𝓜 .mem) (𝓡 .run)))
     (tables 𝓤 H 𝓜 𝓡 code.env .C) (tables 𝓤 H 𝓜 𝓡 code.env .Λ) #opened·open-plan code.function (code.unfolded 𝓤 H 𝓜 𝓡)
     (open-meets 𝓤 H (𝓖 .A) (givenOf 𝓤 H 𝓜 𝓖) (𝓜 .mem) (𝓡 .run) (tablesOf 𝓤 H 𝓜 (tables 𝓤 H 𝓜 𝓡 code.env))
-    (cited 𝓤 H (Reads 𝓤 H (𝓖 .A) (𝓜 .mem) (𝓡 .run)) 𝓜 𝓡 code.env #reader·read·read-plan reads-def.routine code.calls-reader·read·read-plan
+    (cited 𝓤 H (Reads 𝓤 H (𝓖 .A) (𝓜 .mem) (𝓡 .run)) 𝓜 𝓡 code.env #plan-totals·read-summed reads-def.routine code.calls-plan-totals·read-summed
     (reads-thm.met 𝓤 H 𝓜 𝓖 𝓡))
     (cited 𝓤 H (Unless 𝓤 H (𝓖 .A) (𝓜 .mem)
-    (𝓡 .run)) 𝓜 𝓡 code.env #opened·carried·bytes-unless unless-def.routine code.calls-opened·carried·bytes-unless (unless-thm.met 𝓤 H 𝓜 𝓖 𝓡)))
+    (𝓡 .run)) 𝓜 𝓡 code.env #carried·bytes-unless unless-def.routine code.calls-carried·bytes-unless (unless-thm.met 𝓤 H 𝓜 𝓖 𝓡)))

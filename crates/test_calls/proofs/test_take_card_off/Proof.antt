@@ -1,8 +1,8 @@
 -- 1 comes first; else the answer is put as it is. Assumes nothing.
 use mathlib.Core.Path.{refl}
 use native.Mathlib.Omega.{arith}
-use Rattle.plan_changer.specs.declared.NewPlan.{NewPlan}
 use Rattle.last_card.specs.Calls.{Take-off-says}
+use Rattle.last_card.specs.declared.SummedPlan.{SummedPlan}
 use Rattle.test_calls.proofs.Lent.{answered, not-lent}
 use borrow.Author.Needs.{needs}
 use Rattle.test_calls.proofs.test_take_card_off.Statement.{statement}
@@ -14,8 +14,8 @@ returns c = not-lent (λ e. omega arith) refl
 take-card-off-requires : tie.Need-take-card-off-requires
 take-card-off-requires c κs = search needs
 
-put-new-plan-requires : tie.Need-put-new-plan-requires
-put-new-plan-requires c κs = search needs
+put-summed-plan-requires : tie.Need-put-summed-plan-requires
+put-summed-plan-requires c κs = search needs
 
 same-length : tie.Need-same-length
 same-length c = search needs
@@ -27,8 +27,8 @@ returns-2 : tie.Need-returns-2
 returns-2 c =
     let a = c .before .before .before .before .before .before .before .before .before .before .before .before .args in
     let taken = c .before .before .before .before .before .before .take-card-off in
-    answered (λ (x : NewPlan). Take-off-says (a .plan .now) x (a .output .now) (taken .last .1 .0)) (omega arith)
-    (c .before .before .put-new-plan .ensures) (taken .ensures)
+    answered (λ (x : SummedPlan). Take-off-says (a .plan .now) (a .total) x (a .output .now) (taken .last .1 .1 .0)) (omega arith)
+    (c .before .before .put-summed-plan .ensures) (taken .ensures)
 
 pub test-take-card-off-spec : {M : Type 1} → statement M
 test-take-card-off-spec =
@@ -36,7 +36,7 @@ test-take-card-off-spec =
     (tie.spec
     returns
     take-card-off-requires
-    put-new-plan-requires
+    put-summed-plan-requires
     same-length
     same-length-2
     returns-2)

@@ -22,16 +22,16 @@ use denote.Exit.{yes}
 use denote.Steps.{heard}
 use denote.Struct.Laws as LL
 use denote.Triple.Call.{calls-from}
-use Rattle.opened.specs.declared.Opened.{Opened}
-use Rattle.opened.proofs.Opened.Laws as T′
-use Rattle.opened.proofs.Held.{Typed-plan, number-slot, sizes, bytes-value}
-use Rattle.opened.proofs.Methods.{Takes-apart, method-meets}
 use Rattle.crossing.proofs.FrameStep as Y
 use Rattle.crossing.proofs.FrameStep.Laws as Y′
-use Rattle.opened.proofs.carried.step_carried as callee
-use Rattle.opened.proofs.carried.step_carried.Symbol as callee-def
-use Rattle.opened.proofs.carried.step_carried.Symbol.{name as #opened·carried·step-carried}
-use Rattle.opened.proofs.carried.step_carried.Met as callee-thm
+use Rattle.carried.proofs.step_carried as callee
+use Rattle.carried.proofs.step_carried.Symbol as callee-def
+use Rattle.carried.proofs.step_carried.Symbol.{name as #carried·step-carried}
+use Rattle.carried.proofs.step_carried.Met as callee-thm
+use Rattle.opened.specs.declared.Opened.{Opened}
+use Rattle.opened.proofs.Opened.Laws as T′
+use Rattle.opened.proofs.Held.{Typed-plan, sizes, number-slot, bytes-value}
+use Rattle.opened.proofs.Methods.{Takes-apart, method-meets}
 use Rattle.opened.proofs.Opened.step.Key.{name as #opened·Opened·step}
 use Rattle.opened.proofs.Opened.step as this
 use Rattle.opened.proofs.Opened.step.Statement as stated
@@ -47,9 +47,9 @@ module _ {M : Type 1} (𝓤 : URA M) (H : Heap 𝓤) (A : Atoms 𝓤) (W : Given
   passed = bytes-value d ∷ vint w32 (d .cards) ∷ vint w32 (d .links) ∷ vint w32 (d .columns) ∷ others
 
   walk : Typed-plan d → origin < 2 ^ 32 → goal < 2 ^ 32
-      → Takes-apart 𝓤 H (WpFn 𝓤 H C Λ code.function) (C #opened·carried·step-carried) d passed others Y.the-row
+      → Takes-apart 𝓤 H (WpFn 𝓤 H C Λ code.function) (C #carried·step-carried) d passed others Y.the-row
   walk wt ok₀ ok₁ Q K h =
-      qed W (raw (C #opened·carried·step-carried passed Q) ∷ []) ∵
+      qed W (raw (C #carried·step-carried passed Q) ∷ []) ∵
       enter ! C Λ code.function (T′.lowered d ∷ others) K $
       alloc1 ! (λ l₀. alloc1 ! (λ l₁. alloc1 ! (λ l₂. alloc1 ! (λ l₃. alloc1 ! (λ l₄. alloc1 ! (λ l₅. alloc1 ! (λ l₆. alloc1 ! (λ l₇.
       alloc0 ! $ params1 ! $ pass1 ! (init ! 12 refl wt) $ pass1 ! (init ! 10 refl (tt, record { fits = ok₀ })) $
@@ -62,7 +62,7 @@ module _ {M : Type 1} (𝓤 : URA M) (H : Heap 𝓤) (A : Atoms 𝓤) (W : Given
       (init ! 2 refl (tt, wt .1 .1 .1 .0)) $
       assigns ! (of-opd ! (load ! (from ! (fld ! refl (stop !))) (look-in ! 12 (sub ! 3 refl (whole !))))) (from ! (stop !))
       (init ! 0 refl (tt, wt .1 .1 .1 .1 .0)) $
-      move ! (16 ∷ []) $ calls-from ! fm (raw (C #opened·carried·step-carried passed Q)) passed Q (id⊢ 𝓤 _)
+      move ! (16 ∷ []) $ calls-from ! fm (raw (C #carried·step-carried passed Q)) passed Q (id⊢ 𝓤 _)
       (and-then ! (load ! (from ! (stop !)) (look ! 7 refl)) (and-then ! (load ! (from ! (stop !)) (look ! 5 refl))
       (and-then ! (load ! (from ! (stop !)) (look ! 3 refl)) (and-then ! (load ! (from ! (stop !)) (look ! 1 refl))
       (and-then ! (load ! (from ! (stop !)) (look ! 11 refl)) (and-then ! (load ! (from ! (stop !)) (look ! 9 refl)) (no-more !))))))) (λ u.
@@ -83,7 +83,7 @@ step-spec 𝓤 H 𝓜 𝓖 𝓡 =
     (this.clauses 𝓤 H (𝓖 .A) (𝓜 .mem) (𝓡 .run)) (callee.clauses 𝓤 H (𝓖 .A) (𝓜 .mem) (𝓡 .run))
     (record { ghost = λ κs a g. tt; asks = λ κs a g. id⊢ 𝓤 _; claims = λ κs a g r ws. id⊢ 𝓤 _ })
     code.env #opened·Opened·step code.function (code.unfolded 𝓤 H 𝓜 𝓡)
-    #opened·carried·step-carried callee-def.routine code.calls-opened·carried·step-carried (callee-thm.met 𝓤 H 𝓜 𝓖 𝓡)
+    #carried·step-carried callee-def.routine code.calls-carried·step-carried (callee-thm.met 𝓤 H 𝓜 𝓖 𝓡)
     (λ κs. (uint-vals w32, (uint-vals w32, tt))) (λ κs. (uint-tells w32, (uint-tells w32, tt)))
     (λ κs. LL.lawful Y.the-type Y′.the-laws 𝓤 H (𝓖 .A) (givenOf 𝓤 H 𝓜 𝓖))
     (λ C Λ fm κs d others wt are. walk 𝓤 H (𝓖 .A) (givenOf 𝓤 H 𝓜 𝓖) C Λ fm d (others .0) (others .1 .0) wt (are .0 .1) (are .1 .0 .1))

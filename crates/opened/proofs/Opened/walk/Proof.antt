@@ -36,10 +36,10 @@ use Rattle.callers.proofs.CallerWalk.Laws as Y′
 use Rattle.traffic.specs.declared.Traffic.{Traffic}
 use Rattle.traffic.proofs.Traffic as X
 use Rattle.traffic.proofs.Traffic.Laws as X′
-use Rattle.opened.proofs.carried.walk_carried as callee
-use Rattle.opened.proofs.carried.walk_carried.Symbol as callee-def
-use Rattle.opened.proofs.carried.walk_carried.Symbol.{name as #opened·carried·walk-carried}
-use Rattle.opened.proofs.carried.walk_carried.Met as callee-thm
+use Rattle.carried.proofs.walk_carried as callee
+use Rattle.carried.proofs.walk_carried.Symbol as callee-def
+use Rattle.carried.proofs.walk_carried.Symbol.{name as #carried·walk-carried}
+use Rattle.carried.proofs.walk_carried.Met as callee-thm
 use Rattle.opened.proofs.Opened.walk.Key.{name as #opened·Opened·walk}
 use Rattle.opened.proofs.Opened.walk as this
 use Rattle.opened.proofs.Opened.walk.Statement as stated
@@ -55,9 +55,9 @@ module _ {M : Type 1} (𝓤 : URA M) (H : Heap 𝓤) (A : Atoms 𝓤) (W : Given
   passed = bytes-value d ∷ vint w32 (d .cards) ∷ vint w32 (d .links) ∷ vint w32 (d .columns) ∷ others
 
   walk : Typed-plan d → origin < 2 ^ 32 → goal < 2 ^ 32 → caller < 2 ^ 32 → Is X.the-row traffic (counts ∷ []) → Room u16 (length ys)
-      → Takes-apart 𝓤 H (WpFn 𝓤 H C Λ code.function) (C #opened·carried·walk-carried) d passed others Y.the-row
+      → Takes-apart 𝓤 H (WpFn 𝓤 H C Λ code.function) (C #carried·walk-carried) d passed others Y.the-row
   walk wt ok₀ ok₁ ok₂ ok₃ room Q K h =
-      qed W (raw (C #opened·carried·walk-carried passed Q) ∷ []) ∵
+      qed W (raw (C #carried·walk-carried passed Q) ∷ []) ∵
       enter ! C Λ code.function (T′.lowered d ∷ others) K $
       alloc1 ! (λ l₀. alloc1 ! (λ l₁. alloc1 ! (λ l₂. alloc1 ! (λ l₃. alloc1 ! (λ l₄. alloc1 ! (λ l₅. alloc1 ! (λ l₆. alloc1 ! (λ l₇.
       alloc1 ! (λ l₈. alloc1 ! (λ l₉. alloc1 ! (λ l₁₀. alloc1 ! (λ l₁₁. alloc1 ! (λ l₁₂.
@@ -79,7 +79,7 @@ module _ {M : Type 1} (𝓤 : URA M) (H : Heap 𝓤) (A : Atoms 𝓤) (W : Given
       assigns ! (agg ! (and-then ! (load ! (from ! (stop !)) (look ! 2 refl))
       (and-then ! (load ! (from ! (fld ! refl (stop !))) (look-in ! 12 (sub ! 1 refl (whole !)))) (no-more !)))) (from ! (stop !))
       (init ! 0 refl (tt, (tt, (record { fits = room .0 }, tt)))) $
-      move ! (26 ∷ []) $ calls-from ! fm (raw (C #opened·carried·walk-carried passed Q)) passed Q (id⊢ 𝓤 _)
+      move ! (26 ∷ []) $ calls-from ! fm (raw (C #carried·walk-carried passed Q)) passed Q (id⊢ 𝓤 _)
       (and-then ! (load ! (from ! (stop !)) (look ! 11 refl)) (and-then ! (load ! (from ! (stop !)) (look ! 9 refl))
       (and-then ! (load ! (from ! (stop !)) (look ! 7 refl)) (and-then ! (load ! (from ! (stop !)) (look ! 5 refl))
       (and-then ! (load ! (from ! (stop !)) (look ! 21 refl)) (and-then ! (load ! (from ! (stop !)) (look ! 19 refl))
@@ -104,7 +104,7 @@ walk-spec 𝓤 H 𝓜 𝓖 𝓡 =
     (this.clauses 𝓤 H (𝓖 .A) (𝓜 .mem) (𝓡 .run)) (callee.clauses 𝓤 H (𝓖 .A) (𝓜 .mem) (𝓡 .run))
     (record { ghost = λ κs a g. tt; asks = λ κs a g. id⊢ 𝓤 _; claims = λ κs a g r ws. id⊢ 𝓤 _ })
     code.env #opened·Opened·walk code.function (code.unfolded 𝓤 H 𝓜 𝓡)
-    #opened·carried·walk-carried callee-def.routine code.calls-opened·carried·walk-carried (callee-thm.met 𝓤 H 𝓜 𝓖 𝓡)
+    #carried·walk-carried callee-def.routine code.calls-carried·walk-carried (callee-thm.met 𝓤 H 𝓜 𝓖 𝓡)
     (λ κs. (uint-vals w32, (uint-vals w32, (uint-vals w32, (LL.vals X.the-type X′.the-laws, (slice-vals, tt))))))
     (λ κs. (uint-tells w32, (uint-tells w32, (uint-tells w32, (LL.tells X.the-type X′.the-laws, (mut-slice-tells (named 1) (κs .1 .0) u16, tt))))))
     (λ κs. LL.lawful Y.the-type Y′.the-laws 𝓤 H (𝓖 .A) (givenOf 𝓤 H 𝓜 𝓖))

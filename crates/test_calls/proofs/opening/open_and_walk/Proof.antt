@@ -50,7 +50,8 @@ use Rattle.callers.specs.Walking.{Caller-walk-says}
 use Rattle.callers.specs.declared.CallerWalk.{CallerWalk}
 use Rattle.callers.proofs.CallerWalk as Y
 use Rattle.callers.proofs.CallerWalk.Laws as Y′
-use Rattle.opened.specs.Opening.{opened-bytes, Walk-with-arrival}
+use Rattle.carried.specs.Carried.{Walk-with-arrival}
+use Rattle.opened.specs.Opening.{opened-bytes}
 use Rattle.opened.specs.declared.Opened.{Opened}
 use Rattle.opened.proofs.Opened as T
 use Rattle.opened.proofs.Opened.Laws as T′
