@@ -15,6 +15,7 @@ use Rattle.reader.specs.Plan.{layout-holds, plan-refusal}
 use Rattle.reader.specs.Reading.{card-refusal, address-refusal, Part-is, Read-says}
 use Rattle.reader.specs.declared.layout.Sizes.{Sizes}
 use Rattle.reader.proofs.AddressPart.{refused-before as card-refused-before, card-outside, card-inside, refused-part}
+use Rattle.forwarder.specs.Calls.{step-refusal}
 use Rattle.totals.specs.Totals.{total-hops}
 use Rattle.plan_totals.specs.Summed.{total-refusal}
 use Rattle.plan_totals.proofs.Refusals.{other-total, clear-total, total-clear, total-refusal-most}
@@ -22,7 +23,7 @@ use Rattle.last_card.specs.Calls.{Add-says, Take-off-says}
 use Rattle.last_card.specs.Promises.{Added-is-read, Taken-off-is-read}
 use Rattle.last_card.proofs.Promises.{added-is-read, taken-off-is-read}
 use Rattle.crossing.specs.Crossing.{Frame-step-says}
-use Rattle.callers.specs.Walking.{Caller-walk-says}
+use Rattle.callers.specs.Walking.{caller-walk-refusal, Caller-walk-says}
 use Rattle.conference.specs.Conference.{three-refusal, conference-refusal, Conference-is}
 use Rattle.carried.specs.Carried.{carries, address-refusal-with, Walk-with-arrival}
 use Rattle.opened.specs.Opening.{opened-bytes, Opening-says}
@@ -46,8 +47,14 @@ other-sizes p h = carried-twelve p (not-true-false (carried p) (λ t. h (carry-s
 pub other-sum : Other-sum
 unfolding Other-sum
 other-sum p h z n =
-    refused-where-13-is-tested p 13 (λ e. omega arith)
-    (ap (λ (qs : List ℕ). total-refusal qs (p .total)) (read-whole p h z) ∙ other-total (ps p) (p .total) h n)
+    let whole = read-whole p h z in
+    record {
+      reading =
+          refused-where-13-is-tested p 13 (λ e. omega arith)
+          (ap (λ (qs : List ℕ). total-refusal qs (p .total)) whole ∙ other-total (ps p) (p .total) h n);
+      step = λ a b. ap (λ (qs : List ℕ). step-refusal qs a b) whole;
+      walk = λ a b u t room. ap (λ (qs : List ℕ). caller-walk-refusal qs a b u t room) whole;
+    }
 
 pub sum-unseen : Sum-unseen
 unfolding Sum-unseen

@@ -77,9 +77,16 @@ Refused-opening = (ps : List ℕ) (at : ℕ × ℕ) (p : Opened) → Opening-say
 unfoldable pub Other-sizes : Type 0
 Other-sizes = (p : Opened) → (Sizes-carried p → ⊥) → Twelve-in-every-call p
 
+-- 13 in every call that tests it; a step and a walk are refused or not as on the plan's own bytes
+pub record Thirteen-but-for-frames (p : Opened) : Type 0 where
+  pub reading : Where-13-is-tested 13 p
+  pub step : (a b : ℕ) → step-refusal (opened-bytes p) a b ≡ step-refusal (now (p .bytes)) a b
+  pub walk : (a b u : ℕ) (t : Traffic) (room : ℕ) →
+      caller-walk-refusal (opened-bytes p) a b u t room ≡ caller-walk-refusal (now (p .bytes)) a b u t room
+
 -- "another sum in it is 13, in the calls that test 13"
 unfoldable pub Other-sum : Type 0
-Other-sum = (p : Opened) → plan-refusal (now (p .bytes)) ≡ 0 → Sizes-carried p → (Sum-carried p → ⊥) → Where-13-is-tested 13 p
+Other-sum = (p : Opened) → plan-refusal (now (p .bytes)) ≡ 0 → Sizes-carried p → (Sum-carried p → ⊥) → Thirteen-but-for-frames p
 
 -- steps and walks do not look at the sum: two plans with the same bytes and sizes answer alike
 pub record Alike-but-for-the-sum (p q : Opened) : Type 0 where

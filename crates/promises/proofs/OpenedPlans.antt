@@ -108,7 +108,7 @@ refused-opening = opened.refused-opening
 pub other-sizes : Other-sizes
 other-sizes = opened.other-sizes
 
--- another sum is 13 in the calls that test 13, and steps and walks do not look at it
+-- another sum is 13 in the calls that test 13; steps and walks do not look at it
 pub other-sum : Other-sum
 other-sum = opened.other-sum
 
