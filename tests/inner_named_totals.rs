@@ -84,13 +84,20 @@ fn wrong_fields(both: &mut Both, plan: &[u8]) {
     }
 }
 
-/// Each call with each of the sizes one off, and with each sum beside the right one.
+/// Each call with each sum beside the right one; and with each of the sizes one off, beside the right sum and another.
 fn numbers_beside(both: &mut Both, plan: &[u8], right: u32, else_number: impl Fn(Name) -> u32) {
+    let own = sizes_in(plan);
+    let totals = totals_beside(right);
     for name in CARRYING_SUMS.into_iter().chain(STEPS) {
         for sizes in sizes_beside(plan) {
-            for total in totals_beside(right) {
+            let totals = match sizes == own {
+                true => &totals[..],
+                false if name.carries_sizes() => &totals[..2],
+                false => &[],
+            };
+            for &total in totals {
                 let wrong = Wrong {
-                    sizes: sizes != sizes_in(plan),
+                    sizes: sizes != own,
                     total: total != right,
                     else_number: else_number(name),
                 };
@@ -104,7 +111,7 @@ fn numbers_beside(both: &mut Both, plan: &[u8], right: u32, else_number: impl Fn
 fn no_card(both: &mut Both, plan: &[u8], right: u32) {
     let sizes = sizes_in(plan);
     for name in NAMING_CARDS {
-        for total in totals_beside(right) {
+        for &total in &totals_beside(right)[..2] {
             let call = Call {
                 sizes,
                 total,
@@ -161,7 +168,7 @@ fn damaged(both: &mut Both, plan: &[u8], right: u32) {
         answers(both, Call::new(opening), &other, lengths, 13);
     }
     for name in CARRYING_SUMS {
-        for total in totals_beside(right) {
+        for &total in &totals_beside(right)[..2] {
             let [cut, other] = [&plan[..end], &other].map(|plan| Opened { plan, sizes, total });
             let [is_12, is_13] = [12, 13].map(|else_number| Wrong {
                 sizes: else_number == 12,

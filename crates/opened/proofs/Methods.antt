@@ -34,7 +34,8 @@ use denote.Triple.Walked.{says}
 use Rattle.opened.specs.declared.Opened.{Opened}
 use Rattle.opened.proofs.Opened as T
 use Rattle.opened.proofs.Opened.Laws as T′
-use Rattle.opened.proofs.Held.{Field, Typed-plan, number-slots, numbers-kept, numbers-given, numbers-valued, others-last, numbers-dropped, bytes-value, Passed-own, taken-apart}
+use Rattle.opened.proofs.Held.{Field, Typed-plan, number-slots, numbers-kept, numbers-given, numbers-valued, others-last}
+use Rattle.opened.proofs.Held.{numbers-dropped, bytes-value, Passed-own, taken-apart}
 
 -- what a method's code does: wherever a call of the function on what it is passed leads to Q, the code leads to K, if Q gives K and a
 -- machine value of the result's type
@@ -162,7 +163,8 @@ module _ (fs : List Field) (m : ℕ) (ss : List (Slot (suc m))) (ks : Kepts ss) 
         (lawful : (κs : Lfts (suc m)) → Lawful 𝓤 H A (typeAt res κs))
         (code : (κs : Lfts (suc m)) (d : Opened) (others : Denots (typesAt ss κs)) → Typed-plan d
         → Are (typesAt ss κs) (Ises (typesAt ss κs)) others (valss (typesAt ss κs) (sp κs) others)
-        → Takes-apart 𝓤 H run call d (passed-values κs d (valss (typesAt ss κs) (sp κs) others)) (flat (typesAt ss κs) (valss (typesAt ss κs) (sp κs) others)) (typeAt res κs)) where
+        → Takes-apart 𝓤 H run call d (passed-values κs d (valss (typesAt ss κs) (sp κs) others))
+        (flat (typesAt ss κs) (valss (typesAt ss κs) (sp κs) others)) (typeAt res κs)) where
       code-meets : Triple 𝓤 call Called-triple → Triple 𝓤 run Method-triple
       code-meets known y =
           let κs = y .0 .0 in
@@ -192,7 +194,8 @@ module _ (fs : List Field) (m : ℕ) (ss : List (Slot (suc m))) (ks : Kepts ss) 
         → ((C : Calls 𝓤 H) (Λ : Loops 𝓤 H) → FmC 𝓤 H (givenOf 𝓤 H 𝓜 𝓖 .laws) C
         → (κs : Lfts (suc m)) (d : Opened) (others : Denots (typesAt ss κs)) → Typed-plan d
         → Are (typesAt ss κs) (Ises (typesAt ss κs)) others (valss (typesAt ss κs) (sp κs) others)
-        → Takes-apart 𝓤 H (WpFn 𝓤 H C Λ function) (C callee) d (passed-values κs d (valss (typesAt ss κs) (sp κs) others)) (flat (typesAt ss κs) (valss (typesAt ss κs) (sp κs) others)) (typeAt res κs))
+        → Takes-apart 𝓤 H (WpFn 𝓤 H C Λ function) (C callee) d (passed-values κs d (valss (typesAt ss κs) (sp κs) others))
+        (flat (typesAt ss κs) (valss (typesAt ss κs) (sp κs) others)) (typeAt res κs))
         → Triple 𝓤 (tables 𝓤 H 𝓜 𝓡 γ .C key) (Method-triple 𝓤 H (𝓖 .A) (givenOf 𝓤 H 𝓜 𝓖) method called)
     unfolding tablesOf
     method-meets sp tl lawful code =

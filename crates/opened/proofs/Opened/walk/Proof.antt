@@ -27,19 +27,19 @@ use denote.Exit.{yes}
 use denote.Steps.{heard}
 use denote.Struct.Laws as LL
 use denote.Triple.Call.{calls-from}
-use Rattle.opened.specs.declared.Opened.{Opened}
-use Rattle.opened.proofs.Opened.Laws as T′
-use Rattle.opened.proofs.Held.{Typed-plan, number-slot, sizes, bytes-value}
-use Rattle.opened.proofs.Methods.{Takes-apart, method-meets}
-use Rattle.callers.proofs.CallerWalk as Y
-use Rattle.callers.proofs.CallerWalk.Laws as Y′
 use Rattle.traffic.specs.declared.Traffic.{Traffic}
 use Rattle.traffic.proofs.Traffic as X
 use Rattle.traffic.proofs.Traffic.Laws as X′
+use Rattle.callers.proofs.CallerWalk as Y
+use Rattle.callers.proofs.CallerWalk.Laws as Y′
 use Rattle.carried.proofs.walk_carried as callee
 use Rattle.carried.proofs.walk_carried.Symbol as callee-def
 use Rattle.carried.proofs.walk_carried.Symbol.{name as #carried·walk-carried}
 use Rattle.carried.proofs.walk_carried.Met as callee-thm
+use Rattle.opened.specs.declared.Opened.{Opened}
+use Rattle.opened.proofs.Opened.Laws as T′
+use Rattle.opened.proofs.Held.{Typed-plan, number-slot, sizes, bytes-value}
+use Rattle.opened.proofs.Methods.{Takes-apart, method-meets}
 use Rattle.opened.proofs.Opened.walk.Key.{name as #opened·Opened·walk}
 use Rattle.opened.proofs.Opened.walk as this
 use Rattle.opened.proofs.Opened.walk.Statement as stated
