@@ -18,7 +18,7 @@ use Rattle.traffic.specs.declared.Traffic.{Traffic}
 use Rattle.traffic.proofs.Promises.{none-counted}
 use Rattle.callers.specs.Walking.{Walk-is, Caller-walk-says, Lent-walk-says, not-walked}
 use Rattle.callers.specs.declared.CallerWalk.{CallerWalk}
-use Rattle.callers.proofs.Refused.{own-number, lent-whole}
+use Rattle.callers.proofs.Refused.{walk-number, lent-whole}
 
 module _ (ps : List ℕ) (a b u : ℕ) (t : Traffic) where
   -- A REFUSAL
@@ -67,7 +67,7 @@ module _ (ps : List ℕ) (a b u : ℕ) (t : Traffic) where
 
     pub walk-answered : length old ≡ lent-met → caller-refusal ps u ≡ 0 → Caller-walk-says ps a b u t (answered f q) old new
     walk-answered room z =
-        subst (λ (k : ℕ). Walk-is k ps a b u t (answered f q) old new) (sym (own-number ps a b u t (length old) room z)) walk-is
+        subst (λ (k : ℕ). Walk-is k ps a b u t (answered f q) old new) (sym (walk-number ps a b u t (length old) room z)) walk-is
 
   -- AND BACK: the walk with that caller's counts
   module _ (x : ℕ) (r : CallerWalk) (old new : List ℕ) (s : Walk-is x ps a b u t r old new) where

@@ -21,7 +21,7 @@ use Rattle.traffic.proofs.Promises.{none-counted}
 use Rattle.callers.specs.Walking.{caller-walk-refusal, lent-walk-refusal, Walk-is, Caller-walk-says, Lent-walk-says}
 use Rattle.callers.specs.Walking.{Caller-frame, Caller-can-take, Caller-arrived, Caller-full, Lent-frame, Lent-can-take, Lent-arrived}
 use Rattle.callers.specs.declared.CallerWalk.{CallerWalk}
-use Rattle.callers.proofs.Refused.{caller-own, lent-whole}
+use Rattle.callers.proofs.Refused.{caller-walk-number, lent-whole}
 use Rattle.callers.proofs.Answers.{as-walked, walk-says}
 
 -- A WALK whose number is that of the walk with its caller's counts
@@ -64,17 +64,17 @@ walked-stuck x ps a b u t r old new s own l from goal room stuck =
     let k = stuck-uncounted ps a b (tally-of t u) w old new (walk-says ps a b u t x r old new s own) l from goal room stuck in
     (k .0, k .1, k .2, s .traffic ∙ rw (k .1) (none-counted t u (r .hops)))
 
-frame-own : (ps : List ℕ) (a b u : ℕ) (t : Traffic) (old : List ℕ) → Caller-frame ps a b u old
+frame-walk-number : (ps : List ℕ) (a b u : ℕ) (t : Traffic) (old : List ℕ) → Caller-frame ps a b u old
     → caller-walk-refusal ps a b u t (length old) ≡ walk-refusal ps a b (tally-of t u) (length old)
-frame-own ps a b u t old f = caller-own ps a b u t (length old) (read-measured ps (f .frame .read) .layout) (f .caller) (f .frame .room)
+frame-walk-number ps a b u t old f = caller-walk-number ps a b u t (length old) (read-measured ps (f .frame .read) .layout) (f .caller) (f .frame .room)
 
 -- BY NUMBERS
 module _ (ps : List ℕ) (a b u : ℕ) (t : Traffic) (r : CallerWalk) (old new : List ℕ) (s : Caller-walk-says ps a b u t r old new) where
   pub arrives : Caller-frame ps a b u old → Caller-can-take ps a b u t → Caller-arrived ps a b u t r new
-  arrives f = walked-arrived (caller-walk-refusal ps a b u t (length old)) ps a b u t r old new s (frame-own ps a b u t old f) (f .frame)
+  arrives f = walked-arrived (caller-walk-refusal ps a b u t (length old)) ps a b u t r old new s (frame-walk-number ps a b u t old f) (f .frame)
 
   pub full : Caller-frame ps a b u old → (Caller-can-take ps a b u t → ⊥) → Caller-full t r old new
-  full f = walked-full (caller-walk-refusal ps a b u t (length old)) ps a b u t r old new s (frame-own ps a b u t old f) (f .frame)
+  full f = walked-full (caller-walk-refusal ps a b u t (length old)) ps a b u t r old new s (frame-walk-number ps a b u t old f) (f .frame)
 
   pub with-delivery : Caller-walk-says ps a b u t r old new
       × ((Caller-frame ps a b u old → Caller-can-take ps a b u t → Caller-arrived ps a b u t r new)
@@ -83,20 +83,20 @@ module _ (ps : List ℕ) (a b u : ℕ) (t : Traffic) (r : CallerWalk) (old new :
 
 -- OF A LENT FRAME
 module _ (ps : List ℕ) (a : ℕ) (f : List ℕ) (t : Traffic) (r : CallerWalk) (old new : List ℕ) (s : Lent-walk-says ps a f t r old new) where
-  lent-own : Lent-frame ps a f old
+  lent-walk-number : Lent-frame ps a f old
       → lent-walk-refusal ps a f t (length old) ≡ walk-refusal ps a (frame-goal f) (tally-of t (frame-caller f)) (length old)
   unfolding layout-refusal
-  lent-own z =
+  lent-walk-number z =
       lent-whole ps a f t (length old) (z .frame .frame .room) (rw (read-measured ps (z .frame .frame .read) .layout) refl) (z .whole)
-      ∙ frame-own ps a (frame-goal f) (frame-caller f) t old (z .frame)
+      ∙ frame-walk-number ps a (frame-goal f) (frame-caller f) t old (z .frame)
 
   pub lent-arrives : Lent-frame ps a f old → Lent-can-take ps a f t → Lent-arrived ps a f t r new
   lent-arrives z =
-      walked-arrived (lent-walk-refusal ps a f t (length old)) ps a (frame-goal f) (frame-caller f) t r old new s (lent-own z) (z .frame .frame)
+      walked-arrived (lent-walk-refusal ps a f t (length old)) ps a (frame-goal f) (frame-caller f) t r old new s (lent-walk-number z) (z .frame .frame)
 
   pub lent-full : Lent-frame ps a f old → (Lent-can-take ps a f t → ⊥) → Caller-full t r old new
   lent-full z =
-      walked-full (lent-walk-refusal ps a f t (length old)) ps a (frame-goal f) (frame-caller f) t r old new s (lent-own z) (z .frame .frame)
+      walked-full (lent-walk-refusal ps a f t (length old)) ps a (frame-goal f) (frame-caller f) t r old new s (lent-walk-number z) (z .frame .frame)
 
   pub with-lent-delivery : Lent-walk-says ps a f t r old new
       × ((Lent-frame ps a f old → Lent-can-take ps a f t → Lent-arrived ps a f t r new)

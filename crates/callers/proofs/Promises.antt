@@ -15,7 +15,7 @@ use Rattle.traffic.proofs.Promises.{caller-refused, others-kept, caller-counted
 use Rattle.callers.specs.Walking.{caller-walk-refusal, lent-walk-refusal}
 use Rattle.callers.specs.Promises.{Caller-walk-arrives, Caller-walk-full, Lent-walk-arrives, Lent-walk-full, Caller-walk-refused}
 use Rattle.callers.specs.Promises.{Arrival-counted, Others-unseen, Others-uncounted, Refused-uncounted, Caller-stuck-uncounted, Lent-stuck-uncounted}
-use Rattle.callers.proofs.Refused.{caller-own, eighteen-only, eighteen-said, lent-short, lent-whole, nineteen-only, lent-eighteen-only}
+use Rattle.callers.proofs.Refused.{caller-walk-number, eighteen-only, eighteen-said, lent-short, lent-whole, nineteen-only, lent-eighteen-only}
 use Rattle.callers.proofs.Delivery.{arrives, full, lent-arrives, lent-full, walked-stuck}
 
 -- DEMAND 3, with every condition written out
@@ -94,7 +94,7 @@ refused-uncounted x ps a b u t r old new s n =
 pub caller-stuck-uncounted : Caller-stuck-uncounted
 unfolding Caller-stuck-uncounted
 caller-stuck-uncounted ps a b u t r old new s l from goal caller room stuck =
-    walked-stuck (caller-walk-refusal ps a b u t (length old)) ps a b u t r old new s (caller-own ps a b u t (length old) l (omega arith) room) l from
+    walked-stuck (caller-walk-refusal ps a b u t (length old)) ps a b u t r old new s (caller-walk-number ps a b u t (length old) l (omega arith) room) l from
     goal room stuck
 
 pub lent-stuck-uncounted : Lent-stuck-uncounted
@@ -103,4 +103,4 @@ lent-stuck-uncounted ps a f t r old new s l from whole goal caller room stuck =
     let b = frame-goal f in
     let u = frame-caller f in
     walked-stuck (lent-walk-refusal ps a f t (length old)) ps a b u t r old new s
-    (lent-whole ps a f t (length old) room (rw l refl) whole ∙ caller-own ps a b u t (length old) l (omega arith) room) l from goal room stuck
+    (lent-whole ps a f t (length old) room (rw l refl) whole ∙ caller-walk-number ps a b u t (length old) l (omega arith) room) l from goal room stuck

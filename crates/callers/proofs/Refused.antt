@@ -30,22 +30,22 @@ module _ (ps : List ℕ) (a b u : ℕ) (t : Traffic) (room : ℕ) where
   unfolding caller-walk-refusal
   no-caller e n = rw (eq-eqb room lent-met e, ne-eqb (caller-refusal ps u) 0 n) refl
 
-  pub own-number : room ≡ lent-met → caller-refusal ps u ≡ 0 → caller-walk-refusal ps a b u t room ≡ walk-refusal ps a b (tally-of t u) room
+  pub walk-number : room ≡ lent-met → caller-refusal ps u ≡ 0 → caller-walk-refusal ps a b u t room ≡ walk-refusal ps a b (tally-of t u) room
   unfolding caller-walk-refusal
-  own-number e z = rw (eq-eqb room lent-met e, eq-eqb (caller-refusal ps u) 0 z) refl
+  walk-number e z = rw (eq-eqb room lent-met e, eq-eqb (caller-refusal ps u) 0 z) refl
 
-  pub caller-own : layout-holds ps ≡ true → u < most-callers → room ≡ lent-met
+  pub caller-walk-number : layout-holds ps ≡ true → u < most-callers → room ≡ lent-met
       → caller-walk-refusal ps a b u t room ≡ walk-refusal ps a b (tally-of t u) room
   unfolding layout-refusal
-  caller-own l h e = own-number e (caller-passes ps u (rw l refl) h)
+  caller-walk-number l h e = walk-number e (caller-passes ps u (rw l refl) h)
 
   by-number : {A : Type 0} → (caller-walk-refusal ps a b u t room ≡ 1 → A)
       → (room ≡ lent-met → caller-walk-refusal ps a b u t room ≡ caller-refusal ps u → A)
       → (caller-walk-refusal ps a b u t room ≤ 15 → A) → A
-  by-number small of-caller own =
+  by-number small of-caller of-walk =
       by-eq room lent-met
       (λ e. by-eq (caller-refusal ps u) 0
-      (λ z. own (omega (arith, own-number e z, walk-refusal-within ps a b (tally-of t u) room)))
+      (λ z. of-walk (omega (arith, walk-number e z, walk-refusal-within ps a b (tally-of t u) room)))
       (λ n. of-caller e (no-caller e n)))
       (λ n. small (no-room n))
 
