@@ -25,7 +25,7 @@ use Rattle.plan_changer.specs.Changing.{New-plan-is, add-refusal, off-refusal}
 use Rattle.plan_changer.specs.declared.NewPlan.{NewPlan}
 use Rattle.plan_changer.proofs.Refused.{refused-before, clear-fits, clear-hanging}
 use Rattle.plan_changer.proofs.Answers.{plan-refused}
-use Rattle.last_card.specs.Calls.{add-card-refusal, take-off-refusal, Changed-is, Add-says, Take-off-says, plan-of, not-changed}
+use Rattle.last_card.specs.Calls.{add-card-refusal, take-off-refusal, Changed-is, Add-says, Take-off-says, without-total, not-changed}
 use Rattle.last_card.specs.Promises.{Read-with}
 use Rattle.last_card.specs.declared.SummedPlan.{SummedPlan}
 use Rattle.last_card.proofs.ChangedPlans.{more-bytes-planned, fewer-bytes-planned}
@@ -38,7 +38,7 @@ pub changed-refused : (refused : ℕ) (w : Wiring) (r : SummedPlan) (output : Li
     → Changed-is refused w r output output
 changed-refused refused w r output number n e a =
     record {
-      plan = plan-refused refused (plan-bytes w) (plan-of r) output number n e (ap plan-of a);
+      plan = plan-refused refused (plan-bytes w) (without-total r) output number n e (ap without-total a);
       total = ap (λ (q : SummedPlan). q .total) a ∙ rw (ne-eqb refused 0 (λ z. n (e ∙ z))) refl;
     }
 

@@ -25,14 +25,14 @@ add-card-refusal ps t c room = cond (eqb room lent-plan) (add-refusal (total-ref
 unfoldable pub take-off-refusal : List ℕ → (total room : ℕ) → ℕ
 take-off-refusal ps t room = cond (eqb room lent-plan) (off-refusal (total-refusal ps t) (last-hangs (plan-wiring ps))) 1
 
--- a number and a length alone
-abbrev pub plan-of : SummedPlan → NewPlan
-plan-of r = record { number = r .number; length = r .length }
+-- the number and the length alone
+abbrev pub without-total : SummedPlan → NewPlan
+without-total r = record { number = r .number; length = r .length }
 
 -- "the bytes the planner would write for the changed wiring", their length and their sum of hops; with a refusal no length, the sum 0, and the
 -- lent bytes as they were
 pub record Changed-is (refused : ℕ) (w : Wiring) (r : SummedPlan) (output output-now : List ℕ) : Type 0 where
-  pub plan : New-plan-is refused (plan-bytes w) (plan-of r) output output-now
+  pub plan : New-plan-is refused (plan-bytes w) (without-total r) output output-now
   pub total : r .total ≡ cond (eqb refused 0) (total-hops w) 0
 
 -- a refusal's number and zeros

@@ -16,13 +16,14 @@ use Rattle.reader.specs.Plan.{plan-refusal}
 use Rattle.reader.specs.Reading.{Read-says}
 use Rattle.reader.specs.declared.layout.Sizes.{Sizes}
 use Rattle.pendant.specs.Pendant.{with-card, without-card, last-hangs}
-use Rattle.totals.specs.Totals.{hops-to, total-hops}
+use Rattle.totals.specs.Totals.{hops-to}
+use Rattle.plan_totals.specs.Summed.{plan-total}
 use Rattle.last_card.specs.Calls.{add-card-refusal, take-off-refusal, Add-says, Take-off-says}
 use Rattle.last_card.specs.declared.SummedPlan.{SummedPlan}
 
 -- "another sum in it is 13": the plan is read, and the sum that comes with it is its own
 abbrev pub Read-with : List ℕ → (total : ℕ) → Type 0
-Read-with ps t = (plan-refusal ps ≡ 0) × (t ≡ total-hops (plan-wiring ps))
+Read-with ps t = (plan-refusal ps ≡ 0) × (t ≡ plan-total ps)
 
 -- when each number is said: the plan's own first, 13 for another sum, then 14, "16 if n is 256 or m is 2,048"
 unfoldable pub Add-refused : Type 0
@@ -35,7 +36,7 @@ Add-refused =
     × ((x ≡ 14) ↔ (Read-with ps t × (n ≤ c)))
     × ((x ≡ 16) ↔ (Read-with ps t × (c < n) × full))
     × (plan-refusal ps ≢ 0 → x ≡ plan-refusal ps)
-    × (plan-refusal ps ≡ 0 → t ≢ total-hops (plan-wiring ps) → x ≡ 13)
+    × (plan-refusal ps ≡ 0 → t ≢ plan-total ps → x ≡ 13)
     × ((room : ℕ) → room ≢ 16390 → add-card-refusal ps t c room ≡ 1)
 
 -- .. and of taking off, "17 if the last card can't be taken off so, the only card included"
@@ -48,7 +49,7 @@ Take-off-refused =
     × ((x ≡ 17) ↔ (Read-with ps t × (hangs ≡ false)))
     × (Read-with ps t → plan-cards ps ≡ 1 → x ≡ 17)
     × (plan-refusal ps ≢ 0 → x ≡ plan-refusal ps)
-    × (plan-refusal ps ≡ 0 → t ≢ total-hops (plan-wiring ps) → x ≡ 13)
+    × (plan-refusal ps ≡ 0 → t ≢ plan-total ps → x ≡ 13)
     × ((room : ℕ) → room ≢ 16390 → take-off-refusal ps t room ≡ 1)
 
 -- "the lent bytes keep theirs", "0 with a refusal": with every refusal of either call, the length is 0 and so is the sum
@@ -63,13 +64,13 @@ unfoldable pub Added-is-read : Type 0
 Added-is-read =
     (ps : List ℕ) (t c : ℕ) (r : SummedPlan) (s : Sizes) (output output-now : List ℕ) → Add-says ps t c r output output-now → r .number ≡ 0 →
     let new = take (r .length) output-now in
-    Read-says new s → (s .number ≡ 0) × (plan-wiring new ≡ with-card (plan-wiring ps) c) × (r .total ≡ total-hops (plan-wiring new))
+    Read-says new s → (s .number ≡ 0) × (plan-wiring new ≡ with-card (plan-wiring ps) c) × (r .total ≡ plan-total new)
 
 unfoldable pub Taken-off-is-read : Type 0
 Taken-off-is-read =
     (ps : List ℕ) (t : ℕ) (r : SummedPlan) (s : Sizes) (output output-now : List ℕ) → Take-off-says ps t r output output-now → r .number ≡ 0 →
     let new = take (r .length) output-now in
-    Read-says new s → (s .number ≡ 0) × (plan-wiring new ≡ without-card (plan-wiring ps)) × (r .total ≡ total-hops (plan-wiring new))
+    Read-says new s → (s .number ≡ 0) × (plan-wiring new ≡ without-card (plan-wiring ps)) × (r .total ≡ plan-total new)
 
 -- "the bytes the planner would write for the changed wiring", of the calls: for that wiring's file `write_plan` gives the same length and
 -- leaves the same bytes

@@ -16,11 +16,11 @@ module _ (ps : List ℕ) (at : ℕ × ℕ) (r : Summed) (p : Opened) (s : Summed
       → p .columns ≡ r .columns → p .total ≡ r .total → Opening-says ps at p
   opening-says number bytes cards links columns total =
       record {
-        number = number ∙ s .number;
-        bytes = subst (λ (x : ℕ). Slice-is at (cond (eqb x 0) ps []) (p .bytes)) (s .number) bytes;
-        cards = cards ∙ s .cards;
-        links = links ∙ s .links;
-        columns = columns ∙ s .columns;
+        number = number ∙ s .sizes .number;
+        bytes = subst (λ (x : ℕ). Slice-is at (cond (eqb x 0) ps []) (p .bytes)) (s .sizes .number) bytes;
+        cards = cards ∙ s .sizes .cards;
+        links = links ∙ s .sizes .links;
+        columns = columns ∙ s .sizes .columns;
         total = total ∙ s .total;
         promise = λ e. promise (sym number ∙ e);
       }

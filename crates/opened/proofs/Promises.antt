@@ -29,8 +29,8 @@ use Rattle.carried.specs.Carried.{carries, address-refusal-with, Walk-with-arri
 use Rattle.opened.specs.Opening.{opened-bytes, Opening-says}
 use Rattle.opened.specs.Promises.{Sizes-carried, Sum-carried, Carries-exactly, Opening-whole, Refused-opening-empty}
 use Rattle.opened.specs.Promises.{Refused-opening, Other-sizes, Other-sum, Sum-unseen}
-use Rattle.opened.specs.Promises.{Opened-frame-arrives, Opened-step-own, Opened-walk-own, Opened-conference-own, Opened-change-own, Changed-opens}
-use Rattle.opened.specs.Promises.{Opened-address-own, Opened-address-refused}
+use Rattle.opened.specs.Promises.{Opened-frame-arrives, Opened-step-as-bytes, Opened-walk-as-bytes, Opened-conference-as-bytes, Opened-change-as-bytes, Changed-opens}
+use Rattle.opened.specs.Promises.{Opened-address-as-bytes, Opened-address-refused}
 use Rattle.opened.specs.declared.Opened.{Opened}
 use Rattle.opened.proofs.Seen.{ps, carried, refused-where-13-is-tested, sizes-carry, carry-sizes, carried-twelve, layout-whole, read-whole, whole-read}
 
@@ -58,13 +58,13 @@ other-sum p h z n =
 
 pub sum-unseen : Sum-unseen
 unfolding Sum-unseen
-sum-unseen p q same = (
+sum-unseen p q bytes cards links columns = (
   λ a b r says. subst (λ (bs : List ℕ). Frame-step-says bs a b r) seen says,
   λ a b u t r old new says. subst (λ (bs : List ℕ). Walk-with-arrival bs a b u t r old new) seen says,
 )
   where
     seen : opened-bytes p ≡ opened-bytes q
-    seen = rw (same .bytes, same .cards, same .links, same .columns) refl
+    seen = rw (bytes, cards, links, columns) refl
 
 -- AN OPENING has the bytes, their sizes and their sum, or none and 0
 module _ (qs : List ℕ) (at : ℕ × ℕ) (p : Opened) (s : Opening-says qs at p) where
@@ -128,23 +128,23 @@ unfolding Opened-frame-arrives
 opened-frame-arrives p a b u t r old new z f c w =
     subst (λ (qs : List ℕ). Walk-with-arrival qs a b u t r old new) (read-whole p (f .frame .read) z) w .arrives f c
 
-pub opened-step-own : Opened-step-own
-unfolding Opened-step-own
-opened-step-own p a b r l z says = subst (λ (qs : List ℕ). Frame-step-says qs a b r) (layout-whole p l z) says
+pub opened-step-as-bytes : Opened-step-as-bytes
+unfolding Opened-step-as-bytes
+opened-step-as-bytes p a b r l z says = subst (λ (qs : List ℕ). Frame-step-says qs a b r) (layout-whole p l z) says
 
-pub opened-walk-own : Opened-walk-own
-unfolding Opened-walk-own
-opened-walk-own p a b u t r old new l z w = subst (λ (qs : List ℕ). Caller-walk-says qs a b u t r old new) (layout-whole p l z) (w .says)
+pub opened-walk-as-bytes : Opened-walk-as-bytes
+unfolding Opened-walk-as-bytes
+opened-walk-as-bytes p a b u t r old new l z w = subst (λ (qs : List ℕ). Caller-walk-says qs a b u t r old new) (layout-whole p l z) (w .says)
 
-pub opened-conference-own : Opened-conference-own
-unfolding Opened-conference-own conference-refusal
-opened-conference-own p a b c r h z m says =
+pub opened-conference-as-bytes : Opened-conference-as-bytes
+unfolding Opened-conference-as-bytes conference-refusal
+opened-conference-as-bytes p a b c r h z m says =
     let own = rw (read-whole p h z) at says in
     subst (λ (x : ℕ). Conference-is (three-refusal x (plan-cards (ps p)) a b c) (ps p) a b c r) (clear-total (ps p) (p .total) h m ∙ sym h) own
 
-pub opened-change-own : Opened-change-own
-unfolding Opened-change-own
-opened-change-own p r old new h z = (
+pub opened-change-as-bytes : Opened-change-as-bytes
+unfolding Opened-change-as-bytes
+opened-change-as-bytes p r old new h z = (
   λ c says. subst (λ (qs : List ℕ). Add-says qs (p .total) c r old new) (read-whole p h z) says,
   λ says. subst (λ (qs : List ℕ). Take-off-says qs (p .total) r old new) (read-whole p h z) says,
 )
@@ -177,9 +177,9 @@ changed-opens p q at r old new z opens =
     )
 
 -- AN ADDRESS of an opened plan
-pub opened-address-own : Opened-address-own
-unfolding Opened-address-own address-refusal
-opened-address-own qs at p c r s e z =
+pub opened-address-as-bytes : Opened-address-as-bytes
+unfolding Opened-address-as-bytes address-refusal
+opened-address-as-bytes qs at p c r s e z =
     let own = rw (opened-whole qs at p s e, s .bytes .place) at z in
     subst (λ (x : ℕ). Part-is (card-refusal x (plan-cards qs) c) qs at c r)
     (clear-total qs (p .total) (read qs at p s e) (opened-sum qs at p s e) ∙ sym (read qs at p s e)) own

@@ -6,10 +6,10 @@ use Prim.Native.Nat.{ℕ}
 use lib.Dec.{eqb}
 use denote.Ref.{now}
 use Rattle.rack.specs.Buffers.{Slice-is}
-use Rattle.rack.specs.PlanFile.{plan-cards, plan-links, plan-columns, plan-wiring}
+use Rattle.rack.specs.PlanFile.{plan-cards, plan-links, plan-columns}
 use Rattle.reader.specs.Plan.{plan-refusal}
 use Rattle.reader.specs.Promises.{Measured}
-use Rattle.totals.specs.Totals.{total-hops}
+use Rattle.plan_totals.specs.Summed.{plan-total}
 use Rattle.carried.specs.Carried.{carried-bytes}
 use Rattle.opened.specs.declared.Opened.{Opened}
 
@@ -24,5 +24,5 @@ pub record Opening-says (ps : List ℕ) (at : ℕ × ℕ) (p : Opened) : Type 0 
   pub cards : p .cards ≡ cond (eqb (plan-refusal ps) 0) (plan-cards ps) 0
   pub links : p .links ≡ cond (eqb (plan-refusal ps) 0) (plan-links ps) 0
   pub columns : p .columns ≡ cond (eqb (plan-refusal ps) 0) (plan-columns ps) 0
-  pub total : p .total ≡ cond (eqb (plan-refusal ps) 0) (total-hops (plan-wiring ps)) 0
+  pub total : p .total ≡ cond (eqb (plan-refusal ps) 0) (plan-total ps) 0
   pub promise : p .number ≡ 0 → Measured ps

@@ -8,12 +8,11 @@ use lib.ListN.{take}
 use denote.Ref.{RefT, now}
 use Rattle.rack.specs.Buffers.{Slice-is}
 use Rattle.rack.specs.Limits.{lent-plan}
-use Rattle.rack.specs.PlanFile.{plan-cards, plan-links, plan-columns, plan-wiring}
+use Rattle.rack.specs.PlanFile.{plan-cards, plan-links, plan-columns}
 use Rattle.reader.specs.Plan.{layout-holds, plan-refusal}
 use Rattle.reader.specs.Reading.{part-unless, Address-says}
 use Rattle.forwarder.specs.Calls.{step-refusal, lent-met}
-use Rattle.totals.specs.Totals.{total-hops}
-use Rattle.plan_totals.specs.Summed.{total-refusal}
+use Rattle.plan_totals.specs.Summed.{plan-total, total-refusal}
 use Rattle.last_card.specs.Calls.{add-card-refusal, take-off-refusal, Add-says, Take-off-says}
 use Rattle.last_card.specs.declared.SummedPlan.{SummedPlan}
 use Rattle.crossing.specs.Crossing.{Frame-step-says}
@@ -35,7 +34,7 @@ pub record Sizes-carried (p : Opened) : Type 0 where
 
 -- the sum carried with them is that of the wiring in them
 abbrev pub Sum-carried : Opened → Type 0
-Sum-carried p = p .total ≡ total-hops (plan-wiring (now (p .bytes)))
+Sum-carried p = p .total ≡ plan-total (now (p .bytes))
 
 -- the test of the sizes in plain words
 unfoldable pub Carries-exactly : Type 0
@@ -88,16 +87,10 @@ pub record Thirteen-but-for-frames (p : Opened) : Type 0 where
 unfoldable pub Other-sum : Type 0
 Other-sum = (p : Opened) → plan-refusal (now (p .bytes)) ≡ 0 → Sizes-carried p → (Sum-carried p → ⊥) → Thirteen-but-for-frames p
 
--- steps and walks do not look at the sum: two plans with the same bytes and sizes answer alike
-pub record Alike-but-for-the-sum (p q : Opened) : Type 0 where
-  pub bytes : now (p .bytes) ≡ now (q .bytes)
-  pub cards : p .cards ≡ q .cards
-  pub links : p .links ≡ q .links
-  pub columns : p .columns ≡ q .columns
-
+-- steps and walks do not look at the sum: on two plans with the same bytes and sizes they answer alike
 unfoldable pub Sum-unseen : Type 0
 Sum-unseen =
-    (p q : Opened) → Alike-but-for-the-sum p q →
+    (p q : Opened) → now (p .bytes) ≡ now (q .bytes) → p .cards ≡ q .cards → p .links ≡ q .links → p .columns ≡ q .columns →
     ((a b : ℕ) (r : FrameStep) → Frame-step-says (opened-bytes p) a b r → Frame-step-says (opened-bytes q) a b r)
     × ((a b u : ℕ) (t : Traffic) (r : CallerWalk) (old new : List ℕ) →
     Walk-with-arrival (opened-bytes p) a b u t r old new → Walk-with-arrival (opened-bytes q) a b u t r old new)
@@ -111,26 +104,26 @@ Opened-frame-arrives =
 
 -- on a plan with its layout, read or not, whose carried sizes are those in the bytes, a step and a walk answer as on the plan's own bytes: with
 -- their columns, and with what the walk leaves
-unfoldable pub Opened-step-own : Type 0
-Opened-step-own =
+unfoldable pub Opened-step-as-bytes : Type 0
+Opened-step-as-bytes =
     (p : Opened) (a b : ℕ) (r : FrameStep) → layout-holds (now (p .bytes)) ≡ true → Sizes-carried p →
     Frame-step-says (opened-bytes p) a b r → Frame-step-says (now (p .bytes)) a b r
 
-unfoldable pub Opened-walk-own : Type 0
-Opened-walk-own =
+unfoldable pub Opened-walk-as-bytes : Type 0
+Opened-walk-as-bytes =
     (p : Opened) (a b u : ℕ) (t : Traffic) (r : CallerWalk) (old new : List ℕ) → layout-holds (now (p .bytes)) ≡ true → Sizes-carried p →
     Walk-with-arrival (opened-bytes p) a b u t r old new → Caller-walk-says (now (p .bytes)) a b u t r old new
 
 -- three cards of a plan that was read, and whose carried sizes and sum are those of the bytes, get the answer of the plan's own bytes
-unfoldable pub Opened-conference-own : Type 0
-Opened-conference-own =
+unfoldable pub Opened-conference-as-bytes : Type 0
+Opened-conference-as-bytes =
     (p : Opened) (a b c : ℕ) (r : Conference) → plan-refusal (now (p .bytes)) ≡ 0 → Sizes-carried p → Sum-carried p →
     Conference-says-with (opened-bytes p) (p .total) a b c r → Conference-says (now (p .bytes)) a b c r
 
 -- on a plan that was read, and whose carried sizes are those in the bytes, adding and taking off answer as on the plan's own bytes with the
 -- carried sum
-unfoldable pub Opened-change-own : Type 0
-Opened-change-own =
+unfoldable pub Opened-change-as-bytes : Type 0
+Opened-change-as-bytes =
     (p : Opened) (r : SummedPlan) (old new : List ℕ) → plan-refusal (now (p .bytes)) ≡ 0 → Sizes-carried p →
     ((c : ℕ) → Add-says (opened-bytes p) (p .total) c r old new → Add-says (now (p .bytes)) (p .total) c r old new)
     × (Take-off-says (opened-bytes p) (p .total) r old new → Take-off-says (now (p .bytes)) (p .total) r old new)
@@ -143,8 +136,8 @@ Changed-opens =
     × (Take-off-says (opened-bytes p) (p .total) r old new → (q .number ≡ 0) × (q .total ≡ r .total))
 
 -- "A card's address is handed out as that part of the plan's own bytes": of those of the plan that was opened
-unfoldable pub Opened-address-own : Type 0
-Opened-address-own =
+unfoldable pub Opened-address-as-bytes : Type 0
+Opened-address-as-bytes =
     (ps : List ℕ) (at : ℕ × ℕ) (p : Opened) (c : ℕ) (r : RefT (List ℕ)) → Opening-says ps at p → p .number ≡ 0 →
     Address-says-with (opened-bytes p) (p .total) (p .bytes .ptr) c r → Address-says ps at c r
 

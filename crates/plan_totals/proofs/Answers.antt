@@ -41,13 +41,16 @@ module _ (ps : List ℕ) (r : Sizes) (s : Read-says ps r) where
   pub summed-refused : r .number ≢ 0 → Summed-says ps (record { number = r .number; cards = 0; links = 0; columns = 0; total = 0 })
   summed-refused n =
       let f = ne-eqb (plan-refusal ps) 0 (was-refused n) in
-      record { number = s .number; cards = rw f refl; links = rw f refl; columns = rw f refl; total = rw f refl }
+      let sizes : Read-says ps (no-sizes (r .number)) = record { number = s .number; cards = rw f refl; links = rw f refl; columns = rw f refl } in
+      record { sizes = sizes; total = rw f refl }
 
   pub summed-answered : r .number ≡ 0 → (x : ℕ) → x ≡ total-hops (plan-wiring ps)
       → Summed-says ps (record { number = 0; cards = r .cards; links = r .links; columns = r .columns; total = x })
   summed-answered e x is =
       let f = eq-eqb (plan-refusal ps) 0 (was-read e) in
-      record { number = sym (was-read e); cards = s .cards; links = s .links; columns = s .columns; total = rw f is }
+      let sizes : Read-says ps (record { number = 0; cards = r .cards; links = r .links; columns = r .columns }) =
+      record { number = sym (was-read e); cards = s .cards; links = s .links; columns = s .columns } in
+      record { sizes = sizes; total = rw f is }
 
 -- WITHOUT A REFUSAL the plan is measured, and the sizes answered are its layout
 pub with-total-measured : (ps : List ℕ) (t : ℕ) (r : Sizes) → Read-with-total-says ps t r
@@ -55,7 +58,7 @@ pub with-total-measured : (ps : List ℕ) (t : ℕ) (r : Sizes) → Read-with-to
 with-total-measured ps t r s = (s, λ e. read-measured ps (total-clear ps t (sym (s .number) ∙ e) .0))
 
 pub summed-measured : (ps : List ℕ) (r : Summed) → Summed-says ps r → Summed-says ps r × (r .number ≡ 0 → Measured ps)
-summed-measured ps r s = (s, λ e. read-measured ps (sym (s .number) ∙ e))
+summed-measured ps r s = (s, λ e. read-measured ps (sym (s .sizes .number) ∙ e))
 
 pub total-laid-out : (ps : List ℕ) (t : ℕ) (s : Sizes) → Read-with-total-says ps t s → s .number ≡ 0 → Laid-out ps s
 total-laid-out ps t s z e =

@@ -34,7 +34,7 @@ use Rattle.carried.specs.Carried.{carries, carried-bytes}
 use Rattle.text.specs.Decimals.{digits, decimal}
 use Rattle.listing_text.specs.Listing.{cards-word, links-word, columns-word, card-word, refused-word, at-link, at-card, space, dash, line-end}
 use Rattle.listing_text.specs.Listing.{number-line, address-text, card-line, size-lines, rack-lines, rack-text, names-link, place-text, refused-text, listing}
-use Rattle.promises.specs.Claims.{hex-digit, hex-bytes, hex, Claim, ends-so, counts-of, same-traffic, turns-of, chooses, own-total, claim-holds}
+use Rattle.promises.specs.Claims.{hex-digit, hex-bytes, hex, Claim, ends-so, counts-of, same-traffic, turns-of, chooses, claim-holds}
 use Rattle.promises.specs.Claims.{Case, case, rack, file-of, plan-of, case-holds, failing}
 use Rattle.promises.specs.Cases.{ring-of-four, ring-of-six, ring-plan, star-of-nine-plan, star-of-ten-plan, required-cases, size-cases, link-cases, rack-cases, plan-cases}
 use Rattle.promises.specs.Cases.{call-cases, crossing-cases, caller-cases, turn-cases, conference-cases, last-card-cases, opened-cases, cases}
@@ -51,7 +51,7 @@ None ((s, c) ∷ rest) = Fails s c × Unit {0}
 none-fails : None (failing cases)
 unfolding cases required-cases size-cases link-cases rack-cases plan-cases call-cases crossing-cases caller-cases turn-cases conference-cases
     last-card-cases opened-cases ring-of-four ring-of-six ring-plan star-of-nine-plan star-of-ten-plan rack file-of plan-of hex hex-bytes hex-digit ends-so
-    counts-of same-traffic turns-of chooses own-total claim-holds failing
+    counts-of same-traffic turns-of chooses claim-holds failing
     number-bit bits-value joins linked neighbours touches other-end has-path hops unreached connected
     nearer-first side column same-column add-column add-columns columns column-count address hamming embeds
     or-else lowest-fault link-fault links-refusal reach-refusal parity-refusal embedding-refusal rack-refusal wiring-refusal

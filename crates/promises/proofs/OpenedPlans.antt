@@ -8,8 +8,8 @@ use Rattle.last_card.specs.Promises.{Add-refused, Take-off-refused, Refusals-ke
 use Rattle.last_card.specs.Promises.{Added-as-written, Taken-off-as-written, Added-total, Taken-off-total, Taking-off-undoes}
 use Rattle.last_card.proofs.Promises as last-card
 use Rattle.opened.specs.Promises.{Carries-exactly, Opening-whole, Refused-opening-empty, Refused-opening, Other-sizes, Other-sum, Sum-unseen}
-use Rattle.opened.specs.Promises.{Opened-frame-arrives, Opened-step-own, Opened-walk-own, Opened-conference-own, Opened-change-own, Changed-opens}
-use Rattle.opened.specs.Promises.{Opened-address-own, Opened-address-refused}
+use Rattle.opened.specs.Promises.{Opened-frame-arrives, Opened-step-as-bytes, Opened-walk-as-bytes, Opened-conference-as-bytes, Opened-change-as-bytes, Changed-opens}
+use Rattle.opened.specs.Promises.{Opened-address-as-bytes, Opened-address-refused}
 use Rattle.opened.proofs.Promises as opened
 
 -- with a card more on a last link: hops, columns and addresses
@@ -120,26 +120,26 @@ pub opened-frame-arrives : Opened-frame-arrives
 opened-frame-arrives = opened.opened-frame-arrives
 
 -- a step and a walk on an opened plan answer as on its bytes, with their columns
-pub opened-step-own : Opened-step-own
-opened-step-own = opened.opened-step-own
+pub opened-step-as-bytes : Opened-step-as-bytes
+opened-step-as-bytes = opened.opened-step-as-bytes
 
-pub opened-walk-own : Opened-walk-own
-opened-walk-own = opened.opened-walk-own
+pub opened-walk-as-bytes : Opened-walk-as-bytes
+opened-walk-as-bytes = opened.opened-walk-as-bytes
 
 -- three cards of an opened plan that was read get the answer of its bytes
-pub opened-conference-own : Opened-conference-own
-opened-conference-own = opened.opened-conference-own
+pub opened-conference-as-bytes : Opened-conference-as-bytes
+opened-conference-as-bytes = opened.opened-conference-as-bytes
 
 -- a card more, and the last card taken off, are answered as on its bytes; opening what is left finds the sum that was given
-pub opened-change-own : Opened-change-own
-opened-change-own = opened.opened-change-own
+pub opened-change-as-bytes : Opened-change-as-bytes
+opened-change-as-bytes = opened.opened-change-as-bytes
 
 pub changed-opens : Changed-opens
 changed-opens = opened.changed-opens
 
 -- an address is that part of the bytes that were opened, or empty
-pub opened-address-own : Opened-address-own
-opened-address-own = opened.opened-address-own
+pub opened-address-as-bytes : Opened-address-as-bytes
+opened-address-as-bytes = opened.opened-address-as-bytes
 
 pub opened-address-refused : Opened-address-refused
 opened-address-refused = opened.opened-address-refused

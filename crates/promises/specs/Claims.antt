@@ -24,7 +24,7 @@ use Rattle.callers.specs.Walking.{caller-walk-refusal, lent-walk-refusal}
 use Rattle.conference.specs.Conference.{conference, conference-refusal}
 use Rattle.pendant.specs.Pendant.{with-card, without-card}
 use Rattle.totals.specs.Totals.{total-hops, column-products}
-use Rattle.plan_totals.specs.Summed.{total-refusal}
+use Rattle.plan_totals.specs.Summed.{plan-total, total-refusal}
 use Rattle.plan_changer.specs.Changing.{add-refusal}
 use Rattle.last_card.specs.Calls.{add-card-refusal, take-off-refusal}
 use Rattle.carried.specs.Carried.{carried-bytes, address-refusal-with, conference-refusal-with}
@@ -122,10 +122,6 @@ turns-of x y = set (set (replicate most-callers 0) 3 x) 5 y
 unfoldable pub chooses : (first : Bool) → (f g ts ts-now : List ℕ) → Bool
 chooses b f g ts us = eqb (choice-refusal f g ts) 0 && not (differ b (first-goes f g ts)) && same eqb (turns-after f g ts) us
 
--- the sum of the wiring inside a plan
-unfoldable pub own-total : (plan : List ℕ) → ℕ
-own-total ps = total-hops (plan-wiring ps)
-
 unfoldable pub claim-holds : (file plan : List ℕ) → Claim → Bool
 claim-holds bs ps (file-is xs) = same eqb bs xs
 claim-holds bs ps (refused n i) = eqb (file-refusal bs .number) n && eqb (file-refusal bs .at) i
@@ -161,12 +157,12 @@ claim-holds bs ps (confers-nowhere a b c) = eqb (conference-refusal ps a b c) 0 
 claim-holds bs ps (conference-answers a b c n) = eqb (conference-refusal ps a b c) n
 claim-holds bs ps (adds c new t) =
     let v = with-card (plan-wiring ps) c in
-    eqb (add-card-refusal ps (own-total ps) c lent-plan) 0 && same eqb (plan-bytes v) new && eqb (total-hops v) t
+    eqb (add-card-refusal ps (plan-total ps) c lent-plan) 0 && same eqb (plan-bytes v) new && eqb (total-hops v) t
 claim-holds bs ps (takes-off new t) =
     let v = without-card (plan-wiring ps) in
-    eqb (take-off-refusal ps (own-total ps) lent-plan) 0 && same eqb (plan-bytes v) new && eqb (total-hops v) t
-claim-holds bs ps (adding-answers c room n) = eqb (add-card-refusal ps (own-total ps) c room) n
-claim-holds bs ps (taking-off-answers room n) = eqb (take-off-refusal ps (own-total ps) room) n
+    eqb (take-off-refusal ps (plan-total ps) lent-plan) 0 && same eqb (plan-bytes v) new && eqb (total-hops v) t
+claim-holds bs ps (adding-answers c room n) = eqb (add-card-refusal ps (plan-total ps) c room) n
+claim-holds bs ps (taking-off-answers room n) = eqb (take-off-refusal ps (plan-total ps) room) n
 claim-holds bs ps (adding-refused x n m c number) = eqb (add-refusal x n m c) number
 claim-holds bs ps (opened-answers n m k t x) =
     let seen = carried-bytes ps n m k in
