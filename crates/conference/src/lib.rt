@@ -1,13 +1,13 @@
 // The conference card of three cards, on a plan's own bytes. Definitions in specs/, laws in proofs/.
 ghost use mathlib.Core.Path.{_≡_};
 ghost use Prim.Native.Nat.{_<_};
-ghost use Rattle.rack.specs.Ones.{Counts};
+ghost use Rattle.counting.specs.Ones.{Counts};
 ghost use Rattle.rack.specs.PlanFile.{plan-cards, plan-wiring};
 ghost use Rattle.reader.specs.Promises.{Measured};
 ghost use Rattle.reader.specs.Reading.{Laid-out};
 ghost use Rattle.conference.specs.Callers.{Callers-are, no-card};
 ghost use Rattle.conference.specs.Conference.{Card-or-none, Conference-is, Conference-says, conference, median, three-refusal};
-use rack::ones::ones_table;
+use counting::ones::ones_table;
 use reader::layout::Sizes;
 use reader::places::plan_hamming;
 use reader::read::read_plan;

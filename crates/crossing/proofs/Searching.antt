@@ -11,8 +11,7 @@ use borrow.Author.Tests.{eqb-true, eq-eqb, ne-eqb}
 use Rattle.rack.specs.Bits.{number-bit}
 use Rattle.rack.specs.Lists.{differ, lowest}
 use Rattle.rack.proofs.Tables.{lowest-le, lowest-first, lowest-is}
-use Rattle.rack.specs.PlanFile.{plan-columns, plan-bit, address-start}
-use Rattle.reader.specs.Reading.{bit-from}
+use Rattle.rack.specs.PlanFile.{plan-columns, bit-from, plan-bit, address-start}
 use Rattle.crossing.specs.Differing.{lowest-differing, plan-differing}
 
 -- the bytes from two places on have another t-th byte

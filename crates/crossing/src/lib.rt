@@ -3,6 +3,7 @@ ghost use Rattle.rack.specs.Hops.{hops};
 ghost use Rattle.rack.specs.PlanFile.{plan-wiring};
 ghost use Rattle.forwarder.specs.Calls.{Arrived, Can-take, Frame, Full};
 ghost use Rattle.crossing.specs.Crossing.{Frame-step-says, Frame-walk-says};
+use counting::ones::ones_table;
 use forwarder::step::Stepped;
 use forwarder::step::step_checked;
 use forwarder::walk::Tally;
@@ -11,7 +12,6 @@ use forwarder::walk::walk_counted;
 use places::FirstColumn;
 use places::no_column;
 use places::plan_places;
-use rack::ones::ones_table;
 use reader::layout::plan_layout;
 
 pub mod places;

@@ -3,7 +3,7 @@ ghost use mathlib.Core.Path.{_≡_};
 ghost use Prim.Native.Nat.{_<_, _≤_};
 ghost use lib.ListN.{length};
 ghost use Rattle.rack.specs.Hops.{hops};
-ghost use Rattle.rack.specs.Ones.{Counts};
+ghost use Rattle.counting.specs.Ones.{Counts};
 ghost use Rattle.rack.specs.PlanFile.{plan-wiring};
 ghost use Rattle.reader.specs.Reading.{Laid-out};
 ghost use Rattle.forwarder.specs.Forwarding.{walk};
@@ -11,8 +11,8 @@ ghost use Rattle.forwarder.specs.Calls.{Arrived, Can-take, Frame, Full, 
 ghost use Rattle.forwarder.specs.Parts.{Counted, Route-is, Unwalked};
 use crate::step::frame_sizes;
 use crate::step::step_between;
+use counting::ones::ones_table;
 use rack::limits::MOST_TRAFFIC;
-use rack::ones::ones_table;
 use reader::layout::Sizes;
 
 // The length of the lent numbers, one for each card.

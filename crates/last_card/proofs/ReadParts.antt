@@ -5,7 +5,7 @@ use mathlib.Core.Bool.{Bool}
 use mathlib.Core.List.{List, _++_, append-assoc}
 use Prim.Native.Nat.{ℕ, _+_, _*_, _-_, _≤_, _<_}
 use native.Mathlib.Omega.{arith}
-use lib.ListN.{length, getD, take, length-append}
+use lib.ListN.{length, take, length-append}
 use lib.Seq.{take-at, drop-at}
 use Rattle.rack.specs.Lists.{blocks}
 use Rattle.rack.specs.Bits.{bits-value}
@@ -24,11 +24,10 @@ use Rattle.rack.proofs.Crossing.{crossing}
 use Rattle.rack.proofs.Accepted.{Accepted}
 use Rattle.rack.proofs.WiringFile.{length-two-bytes, wiring-at-cards, wiring-at-count}
 use Rattle.planner.specs.PlanBytes.{address-bytes, plan-bytes}
-use Rattle.planner.proofs.PlanBytes.{written-byte}
 use Rattle.reader.specs.Plan.{plan-refusal}
 use Rattle.reader.specs.declared.layout.Sizes.{Sizes}
 use Rattle.reader.proofs.Plan.{plan-clear}
-use Rattle.reader.proofs.Promises.{read-accepted, read-columns}
+use Rattle.reader.proofs.Promises.{read-accepted, read-byte, read-columns}
 use Rattle.plan_totals.specs.Summed.{Read-with-total-says}
 use Rattle.plan_totals.proofs.Refusals.{total-clear}
 use Rattle.plan_totals.proofs.Answers.{total-laid-out}
@@ -109,11 +108,7 @@ module _ (ps : List ℕ) (h : plan-refusal ps ≡ 0) where
     read-row-byte t = by-lt t (address-size (plan-columns ps)) below behind
       where
         below : t < address-size (plan-columns ps) → row-byte ps a t ≡ byte-of (address w a) t
-        below l =
-            row-byte-below ps a t l
-            ∙ rw (← (wiring-at-count 6 ps), read-columns ps h)
-            (ap (λ (qs : List ℕ). getD qs (6 + 4 * m + a * address-size (column-count w) + t) 0) (sym (plan-clear ps h .2))
-            ∙ written-byte w a t inside (rw (read-columns ps h) at l))
+        below l = row-byte-below ps a t l ∙ read-byte ps h a t inside l
 
         behind : address-size (plan-columns ps) ≤ t → row-byte ps a t ≡ byte-of (address w a) t
         behind l =

@@ -12,9 +12,10 @@ use Rattle.rack.specs.Lists.{one, count, range}
 use Rattle.rack.specs.Bits.{number-bit}
 use Rattle.rack.specs.Hops.{hops}
 use Rattle.rack.specs.Limits.{most-cards}
-use Rattle.rack.specs.PlanFile.{plan-bit, plan-columns, plan-hamming, plan-wiring, address-size, addresses-start, address-start}
+use Rattle.rack.specs.PlanFile.{bit-from, plan-bit, plan-columns, plan-hamming, plan-wiring, address-size, addresses-start, address-start}
 use Rattle.rack.proofs.Lists.{count-le-length, count-snoc}
 use Rattle.rack.proofs.Tables.{length-tabulate, tabulate-snoc}
+use Rattle.rack.proofs.Sums.{sum-none, sum-last, sum-le}
 use Rattle.rack.proofs.WiringFile.{wiring-at-cards}
 use Rattle.reader.specs.Promises.{Measured}
 use Rattle.reader.specs.Reading.{Laid-out}
@@ -22,7 +23,6 @@ use Rattle.reader.specs.declared.layout.Sizes.{Sizes}
 use Rattle.reader.proofs.Addresses.{address-counted}
 use Rattle.reader.proofs.Measured.{plan-embedding}
 use Rattle.totals.specs.Totals.{bit-products, hops-to, ones-of, total-hops}
-use Rattle.totals.proofs.Sums.{sum-none, sum-last, sum-le}
 use Rattle.totals.proofs.Products.{embedding-products}
 
 -- ONES of a column
@@ -53,7 +53,7 @@ module _ (ps : List ℕ) (s : Sizes) (z : Laid-out ps s) (j size start : ℕ) (c
     (starts : start ≡ addresses-start (s .links) + 0 * size + j / 8) where
   pub ones-more : (c ones : ℕ) → c < s .cards → ones ≡ ones-of (plan-bit ps) c j
       → (start + c * size < length ps) × (ones + getD ps (start + c * size) 0 / 2 ^ (j % 8) % 2 ≡ ones-of (plan-bit ps) (c + 1) j)
-  unfolding plan-bit
+  unfolding bit-from plan-bit
   ones-more c ones h e =
       let k = address-counted ps s z c size (addresses-start (s .links) + c * size) h sized refl in
       let at : start + c * size ≡ address-start ps c + j / 8 = omega arith in

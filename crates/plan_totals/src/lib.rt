@@ -7,7 +7,7 @@ ghost use Rattle.reader.specs.Promises.{Measured};
 ghost use Rattle.reader.specs.Reading.{Laid-out};
 ghost use Rattle.totals.specs.Totals.{bit-products, hops-to, ones-of, total-hops};
 ghost use Rattle.plan_totals.specs.Summed.{Read-with-total-says, Summed-says};
-use rack::ones::ones_table;
+use counting::ones::ones_table;
 use rack::plan_file::address_size;
 use rack::plan_file::address_start;
 use reader::layout::Sizes;

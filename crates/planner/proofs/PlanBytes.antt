@@ -15,7 +15,7 @@ use Rattle.rack.specs.WiringFile.{end-bytes, wiring-at}
 use Rattle.rack.specs.Columns.{column-count, address}
 use Rattle.rack.proofs.Tables.{length-tabulate, getD-tabulate, length-blocks, getD-blocks}
 use Rattle.rack.proofs.WiringFile.{Fits, length-two-bytes, two-bytes-value, length-end-bytes, wiring-at-written, number-at-left}
-use Rattle.rack.specs.PlanFile.{address-size, plan-links, plan-columns, plan-bit}
+use Rattle.rack.specs.PlanFile.{address-size, plan-links, plan-columns, bit-from, plan-bit}
 use Rattle.planner.specs.PlanBytes.{address-bytes, plan-bytes}
 use Rattle.rack.proofs.Bits.{bits-value-number}
 
@@ -80,7 +80,7 @@ module _ (w : Wiring) where
   module _ (links-fit : link-count w < 65536) (columns-fit : column-count w < 65536) where
     -- its bits are the addresses'
     pub written-bit : (c j : ℕ) → c < w .cards → j < column-count w → plan-bit (plan-bytes w) c j ≡ address w c j
-    unfolding plan-bit
+    unfolding bit-from plan-bit
     written-bit c j hc hj =
         let e : 8 * (j / 8) + j % 8 ≡ j = omega arith in
         rw (
@@ -101,7 +101,7 @@ module _ (w : Wiring) where
       links-in-front = number-at-left (plan-bytes w) rest 2 (omega (arith, length-plan)) ∙ written-links links-fit
 
       pub bit-in-front : (c j : ℕ) → c < w .cards → j < column-count w → plan-bit (plan-bytes w ++ rest) c j ≡ address w c j
-      unfolding plan-bit
+      unfolding bit-from plan-bit
       bit-in-front c j hc hj =
           let size = address-size (column-count w) in
           let at = 6 + 4 * link-count w + c * size + j / 8 in

@@ -4,15 +4,15 @@ ghost use Prim.Native.Nat.{ℕ, _+_, _*_, _/_, _%_, _^_, _<_, _≤_};
 ghost use lib.ListN.{length, getD, replicate};
 ghost use Rattle.rack.specs.Limits.{lent-hops, lent-words, most-cards, most-columns};
 ghost use Rattle.rack.specs.Lists.{one};
-ghost use Rattle.rack.specs.Ones.{Counts};
+ghost use Rattle.counting.specs.Ones.{Counts};
 ghost use Rattle.rack.specs.WiringFile.{file-wiring};
 ghost use Rattle.rack.specs.Formed.{Formed};
 ghost use Rattle.survey.specs.Tables.{Hops-in};
 ghost use Rattle.planner.specs.OpenColumns.{Column-added, Columns-opened, part-hamming, side-in, words-hamming};
+use counting::places::word_hamming;
 use rack::bytes::first_end;
 use rack::bytes::second_end;
 use rack::limits::MOST_CARDS;
-use rack::places::word_hamming;
 
 // The places in which words `t` of two cards differ.
 fn part_hamming(ones: &[u8; 256], words: &[u64], a: usize, b: usize, t: usize) -> u32

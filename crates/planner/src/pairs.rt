@@ -4,7 +4,7 @@ ghost use mathlib.Core.Bool.{true, false};
 ghost use Prim.Native.Nat.{_≤_};
 ghost use lib.ListN.{length};
 ghost use Rattle.rack.specs.Limits.{lent-hops, lent-words, most-cards};
-ghost use Rattle.rack.specs.Ones.{Counts};
+ghost use Rattle.counting.specs.Ones.{Counts};
 ghost use Rattle.planner.specs.OpenColumns.{Pairs-measure};
 use crate::columns::card_hamming;
 use rack::limits::MOST_CARDS;

@@ -11,7 +11,8 @@ use Rattle.rack.specs.Columns.{nearer-first, side, column, same-column, add-col
 use Rattle.rack.specs.Refusals.{or-else, lowest-fault, link-fault, links-refusal, reach-refusal, parity-refusal, embedding-refusal, rack-refusal, wiring-refusal}
 use Rattle.rack.specs.Buffers.{number-at, two-bytes}
 use Rattle.rack.specs.WiringFile.{wiring-at, sizes-fault, form-refusal, file-refusal, end-bytes, file-bytes}
-use Rattle.rack.specs.PlanFile.{plan-bit, plan-hamming, address-size}
+use Rattle.rack.specs.PlanFile.{bit-from, plan-bit, plan-hamming, address-size}
+use Rattle.counting.specs.Ones.{ones-in}
 use Rattle.rack.proofs.Logic.{by-bool}
 use Rattle.rack.proofs.Lists.{In, all-in}
 use Rattle.planner.specs.PlanBytes.{address-bytes, plan-bytes}
@@ -57,7 +58,7 @@ unfolding cases required-cases size-cases link-cases rack-cases plan-cases call-
     or-else lowest-fault link-fault links-refusal reach-refusal parity-refusal embedding-refusal rack-refusal wiring-refusal
     number-at two-bytes wiring-at sizes-fault form-refusal file-refusal end-bytes file-bytes address-size address-bytes
     plan-bytes
-    layout-holds content-holds plan-refusal layout-refusal plan-bit plan-hamming leads-nearer step walk-from walk
+    layout-holds content-holds plan-refusal layout-refusal bit-from plan-bit plan-hamming ones-in leads-nearer step walk-from walk
     walk-hops step-refusal takes walk-refusal lowest-differing plan-differing column-number step-column walk-column
     frame-goal frame-caller first-goes next-caller choice-refusal turns-after caller-refusal tally-of with-tally raised caller-walk-refusal
     lent-walk-refusal

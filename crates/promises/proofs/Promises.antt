@@ -3,9 +3,11 @@
 use Rattle.rack.specs.Promises.{Hops-fewest, Connected-paths, No-ties, Card-zero-zeros, Addresses-embed, No-addresses}
 use Rattle.rack.specs.Promises.{Embedding-unique, Choices-as-rows, Columns-once, Few-columns, Sizes-in-range, Links-join, Odd-loop, File-as-wiring}
 use Rattle.rack.proofs.Promises as rack
+use Rattle.counting.specs.Promises.{Table-rule, Hamming-by-table, Bits-by-table}
+use Rattle.counting.proofs.Promises as counting
 use Rattle.planner.specs.Promises.{Planning-finds, Writing-finds}
 use Rattle.planner.proofs.Promises as planner
-use Rattle.reader.specs.Promises.{Read-exactly, Calls-agree, Layout-in-range, Address-fits, Largest-plan, Reader-promise}
+use Rattle.reader.specs.Promises.{Read-exactly, Calls-agree, Layout-in-range, Address-fits, Largest-plan, Reader-promise, Hops-by-table}
 use Rattle.reader.specs.Promises.{Address-whole, Refused-address-empty, No-such-card}
 use Rattle.reader.proofs.Promises as reader
 use Rattle.forwarder.specs.Promises.{Step-first, Step-local, Step-call-local, Walk-ends, Frame-arrives, Walk-arrives, Walk-full, Stuck-uncounted}
@@ -73,6 +75,18 @@ odd-loop = rack.odd-loop
 pub file-as-wiring : File-as-wiring
 file-as-wiring = rack.file-as-wiring
 
+-- the table of the ones in each byte: one test of all entries gives its rule
+pub table-rule : Table-rule
+table-rule = counting.table-rule
+
+-- differing places are its entries at the exclusive or of the bytes, added up
+pub hamming-by-table : Hamming-by-table
+hamming-by-table = counting.hamming-by-table
+
+-- and of k columns, the last byte's spare bits left out
+pub bits-by-table : Bits-by-table
+bits-by-table = counting.bits-by-table
+
 -- planning and plan writing find the addresses, or there are none
 pub planning-finds : Planning-finds
 planning-finds = planner.planning-finds
@@ -103,6 +117,10 @@ largest-plan = reader.largest-plan
 -- what the forwarder may lean on
 pub reader-promise : Reader-promise
 reader-promise = reader.reader-promise
+
+-- the hops between two cards are the table's entries over all bytes of their addresses
+pub hops-by-table : Hops-by-table
+hops-by-table = reader.hops-by-table
 
 -- an address that is handed out has all its bits, and zeros behind them
 pub address-whole : Address-whole

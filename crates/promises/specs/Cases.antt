@@ -6,7 +6,7 @@ use Rattle.rack.specs.Wiring.{Link, link, wiring}
 use Rattle.planner.specs.PlanBytes.{plan-bytes}
 use Rattle.promises.specs.Claims.{hex, Case, rack, file-of, plan-of}
 use Rattle.promises.specs.Claims.{file-is, refused, sums, addresses, lists, plan-size, plan-is, read-as, walks, stuck, walk-answers}
-use Rattle.promises.specs.Claims.{gets-stuck, differ-in, differ-nowhere, crosses, crosses-none, column-is}
+use Rattle.promises.specs.Claims.{gets-stuck, differ-in, differ-nowhere, adds-up, crosses, crosses-none, column-is}
 use Rattle.promises.specs.Claims.{counts-to, caller-answers, lent-answers, first-turn, second-turn, choice-answers}
 use Rattle.promises.specs.Claims.{confers, confers-nowhere, conference-answers}
 use Rattle.promises.specs.Claims.{adds, takes-off, adding-answers, taking-off-answers, adding-refused, opened-answers}
@@ -141,7 +141,10 @@ crossing-cases =
     ∷ plan-of "P5's plan with a spare bit, which is no column" (set ring-plan 23 5) (differ-in 0 1 1 0 ∷ differ-in 1 2 1 1 ∷ crosses 0 2 0 ∷ [])
     ∷ plan-of "nine columns: column 8 is the lowest" (hex "02 00 01 00 09 00 00 00 01 00 00 00 00 01") (differ-in 0 1 1 8 ∷ crosses 1 0 8 ∷ [])
     ∷ plan-of "nine columns: only spare bits differ" (hex "02 00 01 00 09 00 00 00 01 00 00 00 00 fe") (differ-nowhere 0 1 ∷ crosses-none 0 1 ∷ [])
-    ∷ rack "one card, no column" 1 [] (crosses-none 0 0 ∷ differ-nowhere 0 0 ∷ [])
+    ∷ plan-of "nine columns: all differ, those of a byte and one of the next" (hex "02 00 01 00 09 00 00 00 01 00 0f 00 f0 ff") (differ-in 0 1 9 0 ∷ [])
+    ∷ plan-of "addresses of two bytes, byte by byte" star-of-ten-plan
+    (adds-up 1 9 (1 ∷ 1 ∷ []) ∷ adds-up 8 0 (1 ∷ 0 ∷ []) ∷ adds-up 3 4 (2 ∷ 0 ∷ []) ∷ adds-up 9 9 (0 ∷ 0 ∷ []) ∷ [])
+    ∷ rack "one card, no column" 1 [] (crosses-none 0 0 ∷ differ-nowhere 0 0 ∷ adds-up 0 0 [] ∷ [])
     ∷ []
 
 -- walks by caller: the counts of that caller alone, and 12, 19, 18, 14, 15, the first that applies

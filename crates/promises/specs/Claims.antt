@@ -3,14 +3,17 @@ use mathlib.Core.Bool.{Bool, true, false, _&&_, not, cond}
 use mathlib.Core.List.{List, [], _∷_, _++_, map}
 use Prim.Native.Nat.{ℕ, _+_, _*_, _-_}
 use Prim.Native.String.{String}
+use lib.Bits.{bitXor}
 use lib.Dec.{ltb, eqb}
-use lib.ListN.{length, set, replicate}
+use lib.ListN.{length, getD, set, replicate}
 use Rattle.rack.specs.Limits.{most-callers, most-traffic, lent-plan}
-use Rattle.rack.specs.Lists.{all, filter, tabulate, differ, same}
+use Rattle.rack.specs.Lists.{all, filter, tabulate, differ, same, sum}
 use Rattle.rack.specs.Wiring.{Link, wiring, link-at}
+use Rattle.rack.specs.Hops.{hops}
 use Rattle.rack.specs.WiringFile.{file-bytes, file-wiring, file-refusal}
 use Rattle.rack.specs.Columns.{columns, column-count, address}
-use Rattle.rack.specs.PlanFile.{plan-cards, plan-columns, plan-wiring, plan-hamming}
+use Rattle.rack.specs.PlanFile.{plan-cards, plan-columns, plan-wiring, plan-hamming, address-size, address-start}
+use Rattle.counting.specs.Ones.{ones-in}
 use Rattle.planner.specs.PlanBytes.{plan-bytes}
 use Rattle.reader.specs.Plan.{plan-refusal}
 use Rattle.forwarder.specs.Forwarding.{step, Walk, walk}
@@ -70,6 +73,8 @@ pub data Claim : Type 0 where
   -- on the plan, two addresses differ in so many places, this column the lowest; in none
   differ-in : (a b places column : ℕ) → Claim
   differ-nowhere : (a b : ℕ) → Claim
+  -- on the plan, these are the ones in the exclusive or of each byte of two addresses, and they add up to the hops between the cards
+  adds-up : (a b : ℕ) → (ones : List ℕ) → Claim
   -- on the plan, a step from a to b crosses this column, and it is the first that a walk crosses; they cross none
   crosses : (a b column : ℕ) → Claim
   crosses-none : (a b : ℕ) → Claim
@@ -139,6 +144,10 @@ claim-holds bs ps (gets-stuck a b hops met) = ends-so 0 hops met (walk ps a b)
 claim-holds bs ps (walk-answers a b f h n) = eqb (walk-refusal ps a b (record { frames = f; hops = h }) lent-met) n
 claim-holds bs ps (differ-in a b n j) = eqb (plan-hamming ps a b) n && ltb j (plan-columns ps) && eqb (plan-differing ps a b) j
 claim-holds bs ps (differ-nowhere a b) = eqb (plan-hamming ps a b) 0 && eqb (plan-differing ps a b) (plan-columns ps)
+claim-holds bs ps (adds-up a b ones) =
+    let byte : (c t : ℕ) → ℕ = λ c t. getD ps (address-start ps c + t) 0 in
+    same eqb (tabulate (address-size (plan-columns ps)) (λ t. ones-in 8 (bitXor (byte a t) (byte b t)))) ones
+    && eqb (sum ones) (hops (plan-wiring ps) a b)
 claim-holds bs ps (crosses a b j) = ltb j (plan-columns ps) && eqb (step-column ps a b) j && eqb (walk-column ps a b) j
 claim-holds bs ps (crosses-none a b) = eqb (step-column ps a b) (plan-columns ps) && eqb (walk-column ps a b) (plan-columns ps)
 claim-holds bs ps (column-is i j) = ltb j (plan-columns ps) && eqb (column-number (plan-wiring ps) (link-at (plan-wiring ps) i)) j

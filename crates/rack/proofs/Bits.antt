@@ -1,22 +1,14 @@
--- Numbers and their bits: the bits of a value, of a part and of a xor; ones counted piece by piece; one bit more. Assumes nothing.
+-- Numbers and their bits: the bits of a value and of its parts; one bit more, and its weight. Assumes nothing.
 use mathlib.Core.Path.{_≡_, refl, sym, ap, ap₂, _∙_}
 use mathlib.Core.Bool.{Bool, true, false}
 use mathlib.Core.Logic.{_≢_}
-use mathlib.Core.List.{List}
 use Prim.Native.Nat.{ℕ, zero, suc, _+_, _*_, _-_, _/_, _%_, _^_, _≤_, _<_}
 use native.Mathlib.Nat.{div-div-eq-div-mul, mul-one, mul-left-comm, pow-succ'}
 use native.Mathlib.Omega.{arith}
-use lib.Bits.{bitXor, xor-mod, xor-shr}
 use lib.Dec.{eqb}
-use lib.ListN.{getD}
-use lib.Pow.{field, mod-mod-pow, mod-pow-add, pow-pos, shr-shr}
-use borrow.Author.Tests.{eqb-true}
-use Rattle.rack.specs.Lists.{differ, one, count, all, range}
+use lib.Pow.{field, mod-mod-pow, mod-pow-add, pow-pos, shl-exact, shr-shr}
+use Rattle.rack.specs.Lists.{one}
 use Rattle.rack.specs.Bits.{number-bit, bits-value}
-use Rattle.rack.specs.Columns.{hamming}
-use Rattle.rack.specs.Ones.{ones-in, Counts}
-use Rattle.rack.proofs.Lists.{all-in, count-ext, count-le-length}
-use Rattle.rack.proofs.Tables.{length-tabulate, in-range, range-in, count-range-add}
 
 -- A NUMBER by its bits
 bits-value-bit : (n : ℕ) (f : ℕ → Bool) (i : ℕ) → i < n → bits-value n f / 2 ^ i % 2 ≡ one (f i)
@@ -55,47 +47,9 @@ number-bit-low z k i h =
     ap (λ (x : ℕ). eqb (x % 2) 1) (ap (λ (m : ℕ). z % 2 ^ m / 2 ^ i) e ∙ field z ((k - suc i) + 1) i)
     ∙ ap (λ (x : ℕ). eqb x 1) (mod-mod-pow (z / 2 ^ i) (k - suc i) 1)
 
-xor-bit : (x y : ℕ) → x < 2 → y < 2 → eqb (bitXor x y) 1 ≡ differ (eqb x 1) (eqb y 1)
-xor-bit zero zero hx hy = refl
-xor-bit zero (suc zero) hx hy = refl
-xor-bit zero (suc (suc y)) hx hy = absurd (omega arith)
-xor-bit (suc zero) zero hx hy = refl
-xor-bit (suc zero) (suc zero) hx hy = refl
-xor-bit (suc zero) (suc (suc y)) hx hy = absurd (omega arith)
-xor-bit (suc (suc x)) y hx hy = absurd (omega arith)
-
-number-bit-xor : (x y i : ℕ) → number-bit (bitXor x y) i ≡ differ (number-bit x i) (number-bit y i)
-unfolding number-bit
-number-bit-xor x y i =
-    ap (λ (z : ℕ). eqb (z % 2) 1) (xor-shr x y i) ∙ ap (λ (z : ℕ). eqb z 1) (xor-mod (x / 2 ^ i) (y / 2 ^ i) 1)
-    ∙ xor-bit (x / 2 ^ i % 2) (y / 2 ^ i % 2) (omega arith) (omega arith)
-
--- DIFFERING PLACES are the ones of the xor
-pub ones-xor : (n x y : ℕ) → ones-in n (bitXor x y) ≡ hamming n (number-bit x) (number-bit y)
-unfolding ones-in hamming
-ones-xor n x y = count-ext (number-bit (bitXor x y)) (λ i. differ (number-bit x i) (number-bit y i)) (range n) (λ i m. number-bit-xor x y i)
-
--- ONES of eight bits more: those of the lowest byte of what is left
-pub ones-byte : (z n : ℕ) → ones-in (n + 8) z ≡ ones-in n z + ones-in 8 (z / 2 ^ n % 256)
-unfolding ones-in
-ones-byte z n =
-    count-range-add (number-bit z) n 8
-    ∙ ap (λ (x : ℕ). count (number-bit z) (range n) + x)
-    (count-ext (λ i. number-bit z (n + i)) (number-bit (z / 2 ^ n % 256)) (range 8)
-    (λ i m. sym (number-bit-low (z / 2 ^ n) 8 i (range-in 8 i m) ∙ number-bit-high z n i)))
-
-pub ones-none : (z : ℕ) → ones-in 0 z ≡ 0
-unfolding ones-in
-ones-none z = refl
-
-pub ones-le : (n z : ℕ) → ones-in n z ≤ n
-unfolding ones-in
-ones-le n z = omega (arith, count-le-length (number-bit z) (range n), length-tabulate n (λ i. i))
-
--- THE TABLE'S RULE, by one test of all entries
-pub table-counts : (table : List ℕ) → all (λ z. eqb (getD table z 0) (ones-in 8 z)) (range 256) ≡ true → Counts table
-table-counts table h =
-    record { ones = λ z l. eqb-true (getD table z 0) (ones-in 8 z) (all-in (λ z. eqb (getD table z 0) (ones-in 8 z)) (range 256) h z (in-range 256 z l)) }
+-- A BIT'S WEIGHT as a byte's shift gives it
+pub bit-weight : (k : ℕ) → k < 8 → 1 * 2 ^ k % 256 ≡ 2 ^ k
+bit-weight k h = shl-exact {a = 1} 1 k 8 (omega arith) (omega arith) ∙ omega arith
 
 -- NUMBERS whose bits agree, but for one, and numbers of few bits
 pub bits-value-ext : (n : ℕ) (f g : ℕ → Bool) → ((i : ℕ) → i < n → f i ≡ g i) → bits-value n f ≡ bits-value n g
@@ -132,6 +86,11 @@ unfolding bits-value
 bits-value-few zero f i h = pow-pos i
 bits-value-few (suc n) f zero h = rw (h 0 (omega arith)) (omega (arith, bits-value-few n (λ i. f (suc i)) 0 (λ j l. h (suc j) (omega arith))))
 bits-value-few (suc n) f (suc i) h = omega (arith, one-le (f 0), pow-succ' 2 i, bits-value-few n (λ i. f (suc i)) i (λ j l. h (suc j) (omega arith)))
+
+pub bits-value-fits : (n : ℕ) (f : ℕ → Bool) → bits-value n f < 2 ^ n
+unfolding bits-value
+bits-value-fits zero f = omega arith
+bits-value-fits (suc n) f = omega (arith, one-le (f 0), pow-succ' 2 n, bits-value-fits n (λ i. f (suc i)))
 
 -- a part of a value is the value of that part of its bits
 value-half : (b : Bool) (x : ℕ) → ((one b + 2 * x) / 2 ≡ x) × ((one b + 2 * x) % 2 ≡ one b)

@@ -1,6 +1,7 @@
 pub mod Logic
 pub mod Lists
 pub mod Tables
+pub mod Sums
 pub mod Bits
 pub mod Hamming
 pub mod Paths

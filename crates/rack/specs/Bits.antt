@@ -8,6 +8,10 @@ use Rattle.rack.specs.Lists.{one}
 unfoldable pub number-bit : (x i : ℕ) → Bool
 number-bit x i = eqb (x / 2 ^ i % 2) 1
 
+-- bit j of a row of bytes: bit j mod 8 of byte j / 8
+abbrev pub bits-of : (bytes : ℕ → ℕ) → (j : ℕ) → Bool
+bits-of bytes j = number-bit (bytes (j / 8)) (j % 8)
+
 -- the number with bits f 0 to f (n - 1)
 unfoldable pub bits-value : (n : ℕ) → (f : ℕ → Bool) → ℕ
 bits-value zero f = 0

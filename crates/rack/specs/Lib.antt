@@ -2,7 +2,6 @@ pub mod Lists
 pub mod Bits
 pub mod Limits
 pub mod Buffers
-pub mod Ones
 pub mod Wiring
 pub mod Hops
 pub mod Columns

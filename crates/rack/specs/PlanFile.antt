@@ -1,9 +1,9 @@
 -- Plan files: where the sizes, the wiring and the addresses stand in their bytes. Assumes nothing: these are definitions.
 use mathlib.Core.Bool.{Bool}
 use mathlib.Core.List.{List}
-use Prim.Native.Nat.{ℕ, _+_, _*_, _/_, _%_}
+use Prim.Native.Nat.{ℕ, _+_, _*_, _/_}
 use lib.ListN.{getD}
-use Rattle.rack.specs.Bits.{number-bit}
+use Rattle.rack.specs.Bits.{bits-of}
 use Rattle.rack.specs.Wiring.{Wiring}
 use Rattle.rack.specs.Buffers.{number-at}
 use Rattle.rack.specs.WiringFile.{wiring-at}
@@ -35,9 +35,13 @@ addresses-start m = 6 + 4 * m
 abbrev pub address-start : List ℕ → (c : ℕ) → ℕ
 address-start ps c = addresses-start (plan-links ps) + c * address-size (plan-columns ps)
 
+-- bit j of the bytes from a place on
+unfoldable pub bit-from : List ℕ → (at j : ℕ) → Bool
+bit-from ps at j = bits-of (λ t. getD ps (at + t) 0) j
+
 -- bit j of card c's address, and the differing places of two addresses: only the first k columns count
 unfoldable pub plan-bit : List ℕ → (c j : ℕ) → Bool
-plan-bit ps c j = number-bit (getD ps (address-start ps c + j / 8) 0) (j % 8)
+plan-bit ps c j = bit-from ps (address-start ps c) j
 
 unfoldable pub plan-hamming : List ℕ → (a b : ℕ) → ℕ
 plan-hamming ps a b = hamming (plan-columns ps) (plan-bit ps a) (plan-bit ps b)

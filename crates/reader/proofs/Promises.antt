@@ -13,25 +13,26 @@ use Rattle.rack.specs.Wiring.{Wiring, link-count}
 use Rattle.rack.specs.Hops.{hops}
 use Rattle.rack.specs.Limits.{most-cards, most-links, lent-plan}
 use Rattle.rack.specs.WiringFile.{file-wiring, file-refusal, file-bytes}
-use Rattle.rack.specs.Bits.{number-bit}
-use Rattle.rack.specs.Columns.{column-count, address}
+use Rattle.rack.specs.Bits.{number-bit, bits-value}
+use Rattle.rack.specs.Columns.{column-count, address, hamming}
 use Rattle.rack.proofs.Logic.{by-bool, by-eq, by-lt}
-use Rattle.rack.proofs.Hamming.{hamming-ext}
+use Rattle.rack.proofs.Hamming.{hamming-ext, hamming-add, hamming-same}
 use Rattle.rack.proofs.Hops.{connected-all}
 use Rattle.rack.proofs.Columns.{past-columns}
 use Rattle.rack.proofs.Accepted.{Accepted, wiring-accepted, accepted-inside, file-clear, clear-file}
 use Rattle.rack.proofs.WiringFile.{Fits, wiring-at-cards, wiring-at-count, file-bytes-wiring, file-bytes-sized, sized-clear}
+use Rattle.counting.proofs.Bytes.{hamming-table}
 use Rattle.planner.specs.PlanBytes.{plan-bytes}
 use Rattle.planner.specs.Planning.{left-in, writing-refusal, Write-says}
 use Rattle.planner.specs.declared.Answer.{Answer}
 use Rattle.planner.proofs.PlanBytes.{written-links, written-columns, written-byte, written-bit}
-use Rattle.rack.specs.PlanFile.{plan-cards, plan-columns, plan-wiring, plan-bit, plan-hamming, address-size, address-start}
-use Rattle.rack.proofs.Bits.{bits-value-number}
+use Rattle.rack.specs.PlanFile.{plan-cards, plan-columns, plan-wiring, bit-from, plan-bit, plan-hamming, address-size, address-start}
+use Rattle.rack.proofs.Bits.{bits-value-number, bits-value-fits}
 use Rattle.rack.proofs.PlanFile.{address-size-is}
 use Rattle.reader.specs.Plan.{plan-refusal}
-use Rattle.reader.specs.Promises.{Read-exactly, Calls-agree, Layout-in-range, Address-fits, Measured, Reader-promise, Refused-address-empty}
+use Rattle.reader.specs.Promises.{Read-exactly, Calls-agree, Layout-in-range, Address-fits, Measured, Reader-promise, Hops-by-table, Refused-address-empty}
 use Rattle.reader.specs.Promises.{No-such-card, Largest-plan, Address-whole}
-use Rattle.reader.specs.Reading.{Read-says, bit-from, card-refusal, address-refusal, address-part}
+use Rattle.reader.specs.Reading.{Read-says, card-refusal, address-refusal, address-part}
 use Rattle.reader.specs.declared.layout.Sizes.{Sizes}
 use Rattle.reader.proofs.Plan.{Layout, layout-of, layout-facts, facts-layout, plan-clear, plan-read, accepted-fits, accepted-columns-fit, layout-head, plan-refusal-most}
 use Rattle.reader.proofs.AddressPart.{refused-before, card-outside, card-inside, clear-card, refused-part, clear-part}
@@ -41,7 +42,7 @@ use Rattle.reader.proofs.Parts.{length-part}
 -- a bit of any byte of an address in the planner's plan
 module _ (w : Wiring) (links-fit : link-count w < 65536) (columns-fit : column-count w < 65536) where
   written-byte-bit : (c j : ℕ) → c < w .cards → j / 8 < address-size (column-count w) → plan-bit (plan-bytes w) c j ≡ address w c j
-  unfolding plan-bit
+  unfolding bit-from plan-bit
   written-byte-bit c j hc hj =
       let e : 8 * (j / 8) + j % 8 ≡ j = omega arith in
       rw (
@@ -96,6 +97,32 @@ module _ (ps : List ℕ) (h : plan-refusal ps ≡ 0) where
   read-byte-bit c j hc hj =
       subst (λ (qs : List ℕ). plan-bit qs c j ≡ address inner c j) (plan-clear ps h .2) (written-byte-bit inner links-fit columns-fit c j hc hj)
 
+  -- a byte of an address
+  pub read-byte : (c t : ℕ) → c < inner .cards → t < address-size (plan-columns ps)
+      → getD ps (address-start ps c + t) 0 ≡ bits-value 8 (λ i. address inner c (8 * t + i))
+  read-byte c t hc ht =
+      rw (← (wiring-at-count 6 ps), read-columns)
+      (ap (λ (qs : List ℕ). getD qs (6 + 4 * link-count inner + c * address-size (column-count inner) + t) 0) (sym (plan-clear ps h .2))
+      ∙ written-byte inner c t hc (rw read-columns at ht))
+
+  -- past the last column no bit differs, so all bytes of two addresses measure hops
+  bytes-measure : (a b : ℕ) → a < inner .cards → b < inner .cards
+      → hamming (8 * address-size (plan-columns ps)) (plan-bit ps a) (plan-bit ps b) ≡ hops inner a b
+  bytes-measure a b ha hb =
+      let k = column-count inner in
+      let size = address-size k in
+      let e : 8 * size ≡ k + (8 * size - k) = omega (arith, address-size-is k) in
+      rw read-columns (hamming-ext (8 * size) (plan-bit ps a) (plan-bit ps b) (address inner a) (address inner b)
+      (λ j l. read-byte-bit a j ha (omega arith)) (λ j l. read-byte-bit b j hb (omega arith))
+      ∙ ap (λ (n : ℕ). hamming n (address inner a) (address inner b)) e
+      ∙ hamming-add k (8 * size - k) (address inner a) (address inner b)
+      ∙ omega (
+        arith,
+        read-accepted .embedding a b ha hb,
+        hamming-same (8 * size - k) (λ j. address inner a (k + j)) (λ j. address inner b (k + j))
+            (λ j l. past-columns inner a (k + j) (omega arith) ∙ sym (past-columns inner b (k + j) (omega arith))),
+      ))
+
   read-hamming : (a b : ℕ) → a < inner .cards → b < inner .cards → plan-hamming ps a b ≡ hops inner a b
   unfolding plan-hamming
   read-hamming a b ha hb =
@@ -116,6 +143,16 @@ module _ (ps : List ℕ) (h : plan-refusal ps ≡ 0) where
 pub reader-promise : Reader-promise
 unfolding Reader-promise
 reader-promise ps h = read-measured ps h
+
+pub hops-by-table : Hops-by-table
+unfolding Hops-by-table bit-from plan-bit
+hops-by-table table ps a b c h ha hb =
+    let n = wiring-at-cards 6 ps in
+    let byte : (card t : ℕ) → card < plan-cards ps → t < address-size (plan-columns ps) → getD ps (address-start ps card + t) 0 < 256 =
+    λ card t l m. rw (read-byte ps h card t (omega arith) m) (bits-value-fits 8 (λ i. address (plan-wiring ps) card (8 * t + i))) in
+    sym (bytes-measure ps h a b (omega arith) (omega arith))
+    ∙ hamming-table table c (address-size (plan-columns ps)) (λ t. getD ps (address-start ps a + t) 0) (λ t. getD ps (address-start ps b + t) 0)
+    (λ t l. (byte a t ha l, byte b t hb l))
 
 pub layout-in-range : Layout-in-range
 unfolding Layout-in-range

@@ -4,18 +4,21 @@ use mathlib.Core.Bool.{true, false}
 use mathlib.Core.List.{List, []}
 use mathlib.Core.Logic.{_↔_, _≢_}
 use Prim.Native.Nat.{ℕ, _+_, _*_, _≤_, _<_}
-use lib.ListN.{length, take}
+use lib.Bits.{bitXor}
+use lib.ListN.{length, getD, take}
 use Rattle.rack.specs.Limits.{lent-plan}
+use Rattle.rack.specs.Lists.{sum, tabulate}
 use Rattle.rack.specs.Wiring.{link-count, link-at}
 use Rattle.rack.specs.Hops.{hops}
 use Rattle.rack.specs.Columns.{address}
 use Rattle.rack.specs.WiringFile.{file-wiring, file-refusal, file-bytes}
+use Rattle.counting.specs.Ones.{Counts}
 use Rattle.planner.specs.PlanBytes.{plan-bytes}
 use Rattle.planner.specs.Planning.{Write-says}
 use Rattle.planner.specs.declared.Answer.{Answer}
-use Rattle.rack.specs.PlanFile.{plan-cards, plan-links, plan-columns, plan-wiring, plan-hamming, address-size}
+use Rattle.rack.specs.PlanFile.{plan-cards, plan-links, plan-columns, plan-wiring, bit-from, plan-hamming, address-size, address-start}
 use Rattle.reader.specs.Plan.{layout-holds, plan-refusal}
-use Rattle.reader.specs.Reading.{Read-says, bit-from, address-refusal, address-part}
+use Rattle.reader.specs.Reading.{Read-says, address-refusal, address-part}
 use Rattle.reader.specs.declared.layout.Sizes.{Sizes}
 
 -- "A plan file is read exactly if it is the one that the planner writes for the wiring inside it": that wiring is accepted;
@@ -65,6 +68,14 @@ pub record Measured (ps : List ℕ) : Type 0 where
 
 unfoldable pub Reader-promise : Type 0
 Reader-promise = (ps : List ℕ) → plan-refusal ps ≡ 0 → Measured ps
+
+-- the hops between two cards of a plan that was read, as a card's firmware counts them: its spare bits are zero, so the entries of all
+-- bytes of the two addresses add up to them
+unfoldable pub Hops-by-table : Type 0
+Hops-by-table =
+    (table ps : List ℕ) (a b : ℕ) → Counts table → plan-refusal ps ≡ 0 → a < plan-cards ps → b < plan-cards ps →
+    hops (plan-wiring ps) a b
+    ≡ sum (tabulate (address-size (plan-columns ps)) (λ t. getD table (bitXor (getD ps (address-start ps a + t) 0) (getD ps (address-start ps b + t) 0)) 0))
 
 -- "With a refusal the part is empty and the number is told beside it"
 unfoldable pub Refused-address-empty : Type 0

@@ -1,12 +1,11 @@
 -- What reading a plan answers. Assumes nothing: these are definitions.
 use mathlib.Core.Path.{_≡_}
-use mathlib.Core.Bool.{Bool, cond}
+use mathlib.Core.Bool.{cond}
 use mathlib.Core.List.{List, []}
-use Prim.Native.Nat.{ℕ, _+_, _*_, _/_, _%_, _≤_}
+use Prim.Native.Nat.{ℕ, _+_, _*_, _≤_}
 use lib.Dec.{leb, eqb}
-use lib.ListN.{length, getD, take, drop}
+use lib.ListN.{length, take, drop}
 use denote.Ref.{RefT}
-use Rattle.rack.specs.Bits.{number-bit}
 use Rattle.rack.specs.Buffers.{Slice-is}
 use Rattle.rack.specs.Limits.{most-cards, most-links, most-columns}
 use Rattle.rack.specs.PlanFile.{plan-cards, plan-links, plan-columns, address-size, addresses-start, address-start}
@@ -23,10 +22,6 @@ pub record Laid-out (ps : List ℕ) (s : Sizes) : Type 0 where
   pub few-links : s .links ≤ most-links
   pub few-columns : s .columns ≤ most-columns
   pub long : length ps ≡ addresses-start (s .links) + s .cards * address-size (s .columns)
-
--- bit j of the bytes from a place on
-unfoldable pub bit-from : List ℕ → (at j : ℕ) → Bool
-bit-from ps at j = number-bit (getD ps (at + j / 8) 0) (j % 8)
 
 -- a number, and with 0 the plan's three sizes, else zeros
 pub record Sizes-say (ps : List ℕ) (refused : ℕ) (r : Sizes) : Type 0 where

@@ -19,6 +19,7 @@ use answers::put_summed;
 use answers::put_summed_plan;
 use answers::put_walk;
 use conference::conference_card;
+use counting::ones::ones_table;
 use crossing::places::plan_places;
 use crossing::step_frame;
 use crossing::walk_frame;
@@ -29,7 +30,6 @@ use last_card::take_card_off;
 use listing_text::listing_text;
 use plan_totals::read_summed;
 use planner::plan_rack;
-use rack::ones::ones_table;
 use reader::read::card_address;
 
 mod answers;

@@ -1,4 +1,4 @@
-pub mod Sums
+pub mod Pairs
 pub mod Totals
 pub mod Products
 pub mod Chains

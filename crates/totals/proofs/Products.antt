@@ -13,9 +13,10 @@ use Rattle.rack.specs.Columns.{columns, column-count, address, hamming, Embeddi
 use Rattle.rack.specs.Embeddings.{column-of}
 use Rattle.rack.proofs.Logic.{by-bool}
 use Rattle.rack.proofs.Tables.{length-tabulate, count-tabulate}
+use Rattle.rack.proofs.Sums.{sum-suc, sum-ext, sum-map}
 use Rattle.rack.proofs.Columns.{column-long, column-of-address}
 use Rattle.totals.specs.Totals.{total-hops, column-products, ones-of, bit-products}
-use Rattle.totals.proofs.Sums.{sum-suc, sum-ext, sum-map, pairs, pairs-ext, pairs-add, pairs-zero}
+use Rattle.totals.proofs.Pairs.{pairs, pairs-ext, pairs-add, pairs-zero}
 use Rattle.totals.proofs.Totals.{total-pairs}
 
 -- COUNTS as sums; those that fail a test are all but those that pass

@@ -6,10 +6,11 @@ use native.Mathlib.Omega.{arith}
 use Rattle.rack.specs.Lists.{sum, tabulate}
 use Rattle.rack.specs.Wiring.{Wiring}
 use Rattle.rack.specs.Hops.{hops, connected}
+use Rattle.rack.proofs.Sums.{sum-suc, sum-ext, sum-add, sum-same, sum-le}
 use Rattle.rack.proofs.Hops.{hops-le, hops-self}
 use Rattle.pendant.proofs.Hops.{Pendant, hops-old, hops-from-new}
 use Rattle.totals.specs.Totals.{hops-to, total-hops}
-use Rattle.totals.proofs.Sums.{sum-suc, sum-ext, sum-add, sum-same, sum-le, pairs, pairs-ext}
+use Rattle.totals.proofs.Pairs.{pairs, pairs-ext}
 
 pub total-pairs : (w : Wiring) → total-hops w ≡ pairs (w .cards) (hops w)
 unfolding total-hops hops-to

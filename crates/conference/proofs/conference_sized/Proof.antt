@@ -28,7 +28,7 @@ lowest-median-requires c κs =
     let known = at-refusal .before .before .pre in
     let clear = at-refusal .three-refusal .ensures in
     let i = cards-inside _ _ _ _ _ known _ clear (omega arith) in (
-      c .before .ones-table .ensures,
+      c .before .ones-table .ensures .1,
       laid-out _ _ _ _ _ known _ clear (omega arith),
       measured _ _ _ _ _ known _ clear (omega arith),
       i .0,

@@ -29,7 +29,7 @@ plan-places-requires c κs =
     let at-ones-table = at-plan-layout .before in
     let s = at-ones-table .before .before .before .step-checked .ensures in
     let between = step-between-cards _ _ _ _ s _ (at-plan-layout .plan-layout .ensures) (omega arith) in
-    (at-ones-table .ones-table .ensures, between .sizes, between .from, between .far)
+    (at-ones-table .ones-table .ensures .1, between .sizes, between .from, between .far)
 
 returns-2 : tie.Need-returns-2
 returns-2 c =

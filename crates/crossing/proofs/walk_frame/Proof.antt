@@ -45,7 +45,7 @@ plan-places-requires c κs =
     let at-ones-table = at-plan-layout .before in
     let w = at-ones-table .before .before .before .before .before .walk-counted .ensures in
     let between = walk-between-cards _ _ _ _ _ _ _ (w .0) _ (at-plan-layout .plan-layout .ensures) (λ e. omega arith) in
-    (at-ones-table .ones-table .ensures, between .sizes, between .from, between .far)
+    (at-ones-table .ones-table .ensures .1, between .sizes, between .from, between .far)
 
 same-length-2 : tie.Need-same-length-2
 same-length-2 c = search needs

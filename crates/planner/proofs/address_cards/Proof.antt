@@ -29,7 +29,7 @@ pairs-measure-requires c κs =
     let at-open-columns = c .before .before .before .before .before in
     let at-ones-table = at-open-columns .before .before .before in
     let at-pre = at-ones-table .before .before .before .before in (
-      at-ones-table .ones-table .ensures,
+      at-ones-table .ones-table .ensures .1,
       at-open-columns .open-columns .kept .1 .1 .1 .1 .1 .0 ∙ ap length (at-pre .pre .3)
           ∙ length-replicate {A = ℕ} lent-words 0,
       at-pre .pre .2 .long,

@@ -40,7 +40,7 @@ plan-places-requires : tie.Need-plan-places-requires
 plan-places-requires c κs =
     let at-ones-table = c .before in
     let sizes = at-ones-table .before .before .before .frame-sizes .ensures in
-    (at-ones-table .ones-table .ensures, sizes .sizes (omega arith), sizes .from (omega arith), sizes .goal (omega arith))
+    (at-ones-table .ones-table .ensures .1, sizes .sizes (omega arith), sizes .from (omega arith), sizes .goal (omega arith))
 
 put-places-requires : tie.Need-put-places-requires
 put-places-requires c κs = search needs

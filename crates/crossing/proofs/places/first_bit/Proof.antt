@@ -4,8 +4,7 @@ use mathlib.Core.Path.{_≡_, sym, _∙_}
 use Prim.Native.Nat.{_-_, _/_, _≤_}
 use borrow.Author.Count.{below-more}
 use Rattle.rack.proofs.Logic.{differ-false}
-use Rattle.rack.specs.PlanFile.{address-size}
-use Rattle.reader.specs.Reading.{bit-from}
+use Rattle.rack.specs.PlanFile.{address-size, bit-from}
 use Rattle.crossing.proofs.Differing.{differing-ended}
 use Rattle.crossing.proofs.Searching.{Agree-before, bytes-within, bytes-agree}
 use Rattle.crossing.proofs.places.first_bit.Statement.{statement}

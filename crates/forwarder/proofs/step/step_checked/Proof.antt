@@ -23,7 +23,7 @@ step-between-requires c κs =
     let at-ones-table = c .before in
     let at-frame-sizes = at-ones-table .before .before .before in
     let s = at-frame-sizes .frame-sizes in
-    (at-ones-table .ones-table .ensures, s .ensures .sizes (omega arith), s .ensures .from (omega arith), s .ensures .goal (omega arith))
+    (at-ones-table .ones-table .ensures .1, s .ensures .sizes (omega arith), s .ensures .from (omega arith), s .ensures .goal (omega arith))
 
 returns-2 : tie.Need-returns-2
 returns-2 c =

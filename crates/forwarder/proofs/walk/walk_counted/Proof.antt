@@ -30,7 +30,7 @@ walk-between-requires c κs =
     let at-ones-table = c .before in
     let at-frame-sizes = at-ones-table .before .before .before in
     let s = at-frame-sizes .frame-sizes in
-    (at-ones-table .ones-table .ensures, s .ensures .sizes (omega arith), s .ensures .from (omega arith), s .ensures .goal (omega arith))
+    (at-ones-table .ones-table .ensures .1, s .ensures .sizes (omega arith), s .ensures .from (omega arith), s .ensures .goal (omega arith))
 
 counted-requires : tie.Need-counted-requires
 counted-requires c κs = search needs

@@ -4,7 +4,7 @@ use native.Mathlib.Omega.{arith}
 use lib.ListN.{getD}
 use lib.Pow.{pow-pos}
 use borrow.Author.Needs.{needs}
-use Rattle.reader.proofs.Addresses.{bit-weight}
+use Rattle.rack.proofs.Bits.{bit-weight}
 use Rattle.plan_parts.proofs.AddressRows.{low-bits-fit}
 use Rattle.plan_parts.proofs.rows.byte_with_one.Statement.{statement}
 use Rattle.plan_parts.proofs.rows.byte_with_one.Tie as tie

@@ -1,15 +1,14 @@
--- The differing places are those of the whole bytes, and of the last byte those below bit k mod 8. Assumes nothing.
+-- Both addresses begin where the code counts, and end inside the plan. Assumes nothing.
 use native.Mathlib.Omega.{arith}
-use mathlib.Core.Path.{_≡_, _∙_, sym}
+use mathlib.Core.Path.{_≡_, _∙_}
 use Prim.Native.Nat.{ℕ, _+_, _*_, _/_, _≤_, _<_}
 use lib.ListN.{length}
-use Rattle.rack.specs.PlanFile.{addresses-start, address-start}
-use Rattle.reader.proofs.Addresses.{address-counted, hamming-columns, plan-hamming-bytes, plan-hamming-whole}
+use Rattle.rack.specs.PlanFile.{address-size, addresses-start, address-start}
+use Rattle.reader.proofs.Addresses.{address-counted, plan-hamming-from}
 use borrow.Author.Needs.{needs}
 use Rattle.reader.proofs.places.plan_hamming.Statement.{statement}
 use Rattle.reader.proofs.places.plan_hamming.Tie as tie
 
--- both addresses begin where the code counts, and end inside the plan
 module _ (c : tie.After-address-start2) where
   abbrev start : tie.Start
   start = c .before .before .before .before .before .before
@@ -44,45 +43,16 @@ address-start-requires c κs = search needs
 address-start-requires-2 : tie.Need-address-start-requires-2
 address-start-requires-2 c κs = search needs
 
-bytes-hamming-requires : tie.Need-bytes-hamming-requires
-bytes-hamming-requires c κs = let k = known c in (start c .pre .0, omega arith, omega arith, omega arith)
+bits-hamming-requires : tie.Need-bits-hamming-requires
+bits-hamming-requires c κs = let k = known c in (start c .pre .0, omega arith, omega arith, omega arith)
 
 returns : tie.Need-returns
 returns c =
-    let at = c .before .before in
+    let at = c .before in
     let s = start at in
     let k = known at in
-    c .before .bytes-hamming .ensures
-    ∙ sym (plan-hamming-whole (s .args .plan .now) (s .args .a) (s .args .b) (s .args .sizes .columns) _ _ (s .pre .1 .columns) (k .0 .0) (k .1 .0) (omega arith))
-
-add-low-hamming : tie.Need-add-low-hamming
-add-low-hamming c = search needs
-
-shared-slice-read-low-hamming : tie.Need-shared-slice-read-low-hamming
-shared-slice-read-low-hamming c = omega (arith, known (c .before .before .before))
-
-add-low-hamming-2 : tie.Need-add-low-hamming-2
-add-low-hamming-2 c = search needs
-
-shared-slice-read-low-hamming-2 : tie.Need-shared-slice-read-low-hamming-2
-shared-slice-read-low-hamming-2 c = omega (arith, known (c .before .before .before .before))
-
-low-hamming-requires : tie.Need-low-hamming-requires
-low-hamming-requires c κs = search needs
-
-returns-2 : tie.Need-returns-2
-returns-2 c =
-    let at = c .before .before .before .before .before in
-    let s = start at in
-    let k = known at in
-    let e = plan-hamming-bytes (s .args .plan .now) (s .args .a) (s .args .b) (s .args .sizes .columns) _ _ (s .pre .1 .columns) (k .0 .0) (k .1 .0) in
-    omega arith
-
--- their sum is at most the number of columns
-add-result : tie.Need-add-result
-add-result c =
-    let s = start (c .before .before .before .before .before) in
-    omega (arith, returns-2 c, hamming-columns (s .args .plan .now) (s .args .a) (s .args .b), s .pre .1 .columns, s .pre .1 .few-columns)
+    c .bits-hamming .ensures
+    ∙ plan-hamming-from (s .args .plan .now) (s .args .a) (s .args .b) (s .args .sizes .columns) _ _ (s .pre .1 .columns) (k .0 .0) (k .1 .0)
 
 pub plan-hamming-spec : {M : Type 1} → statement M
 plan-hamming-spec =
@@ -93,12 +63,5 @@ plan-hamming-spec =
     address-size-requires
     address-start-requires
     address-start-requires-2
-    bytes-hamming-requires
-    returns
-    add-low-hamming
-    shared-slice-read-low-hamming
-    add-low-hamming-2
-    shared-slice-read-low-hamming-2
-    low-hamming-requires
-    add-result
-    returns-2)
+    bits-hamming-requires
+    returns)

@@ -1,9 +1,9 @@
 -- The places in which two words differ are the ones of their xor. Assumes nothing.
 use mathlib.Core.Path.{_∙_}
-use Rattle.rack.proofs.Bits.{ones-xor}
+use Rattle.counting.proofs.TableRule.{ones-xor}
 use borrow.Author.Needs.{needs}
-use Rattle.rack.proofs.places.word_hamming.Statement.{statement}
-use Rattle.rack.proofs.places.word_hamming.Tie as tie
+use Rattle.counting.proofs.places.word_hamming.Statement.{statement}
+use Rattle.counting.proofs.places.word_hamming.Tie as tie
 
 word-ones-requires : tie.Need-word-ones-requires
 word-ones-requires c κs = search needs

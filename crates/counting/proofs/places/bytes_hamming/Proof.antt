@@ -4,16 +4,16 @@ use mathlib.Core.Path.{_≡_, sym, ap, _∙_}
 use Prim.Native.Nat.{ℕ, _+_, _*_, _-_, _≤_}
 use Rattle.rack.specs.Columns.{hamming}
 use Rattle.rack.proofs.Hamming.{hamming-none, hamming-le}
-use Rattle.reader.specs.Reading.{bit-from}
-use Rattle.reader.proofs.Addresses.{hamming-bytes}
-use Rattle.reader.proofs.places.bytes_hamming.Statement.{statement}
-use Rattle.reader.proofs.places.bytes_hamming.Tie as tie
+use Rattle.rack.specs.PlanFile.{bit-from}
+use Rattle.counting.proofs.Bytes.{hamming-from}
+use Rattle.counting.proofs.places.bytes_hamming.Statement.{statement}
+use Rattle.counting.proofs.places.bytes_hamming.Tie as tie
 
 abbrev Inv-loop : tie.InvT-loop
-Inv-loop ones plan first second count sum₀ t₀ sum t = (t ≤ count) × (sum ≡ hamming (8 * t) (bit-from plan first) (bit-from plan second))
+Inv-loop ones bytes first second count sum₀ t₀ sum t = (t ≤ count) × (sum ≡ hamming (8 * t) (bit-from bytes first) (bit-from bytes second))
 
 abbrev μ-loop : tie.MeasureT-loop
-μ-loop ones plan first second count sum₀ t₀ sum t = count - t
+μ-loop ones bytes first second count sum₀ t₀ sum t = count - t
 
 loop-holds : tie.Need-loop-holds Inv-loop μ-loop
 loop-holds c = (omega arith, sym (hamming-none _ _))
@@ -41,7 +41,7 @@ add-sum c =
       arith,
       at-loop .loop .inv .1,
       hamming-le (8 * at-loop .loop .t)
-          (bit-from (at-args .args .plan .now) (at-args .args .first)) (bit-from (at-args .args .plan .now) (at-args .args .second)),
+          (bit-from (at-args .args .bytes .now) (at-args .args .first)) (bit-from (at-args .args .bytes .now) (at-args .args .second)),
     )
 
 add-t : tie.Need-add-t Inv-loop μ-loop
@@ -62,7 +62,7 @@ loop-again c =
         arith,
         l .inv .1,
         c .byte-hamming .ensures .0,
-        hamming-bytes (a .plan .now) (a .first)
+        hamming-from (a .bytes .now) (a .first)
             (a .second) (l .t) 8 (omega arith),
       )),
     )
@@ -70,7 +70,11 @@ loop-again c =
 returns : tie.Need-returns Inv-loop μ-loop
 returns c =
     let a = c .before .before .before .args in
-    c .before .loop .inv .1 ∙ ap (λ (t : ℕ). hamming (8 * t) (bit-from (a .plan .now) (a .first)) (bit-from (a .plan .now) (a .second))) (omega arith)
+    let x = bit-from (a .bytes .now) (a .first) in
+    let y = bit-from (a .bytes .now) (a .second) in
+    let e : c .before .loop .t ≡ a .count = omega arith in
+    let f = c .before .loop .inv .1 ∙ ap (λ (t : ℕ). hamming (8 * t) x y) e in
+    (f, omega (arith, f, hamming-le (8 * a .count) x y))
 
 pub bytes-hamming-spec : {M : Type 1} → statement M
 bytes-hamming-spec =

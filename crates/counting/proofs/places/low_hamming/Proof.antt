@@ -2,10 +2,11 @@
 use native.Mathlib.Omega.{arith}
 use lib.Pow.{pow-pos}
 use mathlib.Core.Path.{_∙_}
-use Rattle.reader.proofs.Addresses.{bit-weight, hamming-low-bits}
+use Rattle.rack.proofs.Bits.{bit-weight}
+use Rattle.counting.proofs.Bytes.{hamming-low-bits}
 use borrow.Author.Needs.{needs}
-use Rattle.reader.proofs.places.low_hamming.Statement.{statement}
-use Rattle.reader.proofs.places.low_hamming.Tie as tie
+use Rattle.counting.proofs.places.low_hamming.Statement.{statement}
+use Rattle.counting.proofs.places.low_hamming.Tie as tie
 
 cast-weight : tie.Need-cast-weight
 cast-weight c = search needs
@@ -23,7 +24,9 @@ byte-hamming-requires : tie.Need-byte-hamming-requires
 byte-hamming-requires c κs = search needs
 
 returns : tie.Need-returns
-returns c = c .byte-hamming .ensures .0 ∙ hamming-low-bits (c .before .args .x) (c .before .args .y) (c .before .args .k) (omega arith)
+returns c =
+    let a = c .before .args in
+    (c .byte-hamming .ensures .0 ∙ hamming-low-bits (a .x) (a .y) (a .k) (omega arith), c .byte-hamming .ensures .1)
 
 pub low-hamming-spec : {M : Type 1} → statement M
 low-hamming-spec =

@@ -1,8 +1,10 @@
-// The table of the ones in each byte.
-ghost use Rattle.rack.specs.Ones.{Counts};
+// The table of the ones in each byte; every sixteenth entry has its place beside it.
+ghost use mathlib.Core.Path.{_≡_};
+ghost use mathlib.Core.Bool.{true};
+ghost use Rattle.counting.specs.Ones.{Counts, table-holds};
 
 const ONES: [u8; 256] = [
-    0,
+    0, // 0
     1,
     1,
     2,
@@ -18,7 +20,7 @@ const ONES: [u8; 256] = [
     3,
     3,
     4,
-    1,
+    1, // 16
     2,
     2,
     3,
@@ -34,7 +36,7 @@ const ONES: [u8; 256] = [
     4,
     4,
     5,
-    1,
+    1, // 32
     2,
     2,
     3,
@@ -50,7 +52,7 @@ const ONES: [u8; 256] = [
     4,
     4,
     5,
-    2,
+    2, // 48
     3,
     3,
     4,
@@ -66,7 +68,7 @@ const ONES: [u8; 256] = [
     5,
     5,
     6,
-    1,
+    1, // 64
     2,
     2,
     3,
@@ -82,7 +84,7 @@ const ONES: [u8; 256] = [
     4,
     4,
     5,
-    2,
+    2, // 80
     3,
     3,
     4,
@@ -98,7 +100,7 @@ const ONES: [u8; 256] = [
     5,
     5,
     6,
-    2,
+    2, // 96
     3,
     3,
     4,
@@ -114,7 +116,7 @@ const ONES: [u8; 256] = [
     5,
     5,
     6,
-    3,
+    3, // 112
     4,
     4,
     5,
@@ -130,7 +132,7 @@ const ONES: [u8; 256] = [
     6,
     6,
     7,
-    1,
+    1, // 128
     2,
     2,
     3,
@@ -146,7 +148,7 @@ const ONES: [u8; 256] = [
     4,
     4,
     5,
-    2,
+    2, // 144
     3,
     3,
     4,
@@ -162,7 +164,7 @@ const ONES: [u8; 256] = [
     5,
     5,
     6,
-    2,
+    2, // 160
     3,
     3,
     4,
@@ -178,7 +180,7 @@ const ONES: [u8; 256] = [
     5,
     5,
     6,
-    3,
+    3, // 176
     4,
     4,
     5,
@@ -194,7 +196,7 @@ const ONES: [u8; 256] = [
     6,
     6,
     7,
-    2,
+    2, // 192
     3,
     3,
     4,
@@ -210,7 +212,7 @@ const ONES: [u8; 256] = [
     5,
     5,
     6,
-    3,
+    3, // 208
     4,
     4,
     5,
@@ -226,7 +228,7 @@ const ONES: [u8; 256] = [
     6,
     6,
     7,
-    3,
+    3, // 224
     4,
     4,
     5,
@@ -242,7 +244,7 @@ const ONES: [u8; 256] = [
     6,
     6,
     7,
-    4,
+    4, // 240
     5,
     5,
     6,
@@ -262,7 +264,8 @@ const ONES: [u8; 256] = [
 
 // The table as a value, to be lent: a constant that is indexed by a variable is copied at each use.
 pub fn ones_table() -> [u8; 256]
-    ensures { λ r. ⌜ Counts r ⌝ }
+    ensures tested { λ r. ⌜ table-holds r ≡ true ⌝ }
+    ensures counts { λ r. ⌜ Counts r ⌝ }
 {
     ONES
 }

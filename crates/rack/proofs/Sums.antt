@@ -1,11 +1,11 @@
--- Sums of tables, and over the pairs of numbers below n: the last place, place by place, two added, and a bound. Assumes nothing.
+-- Sums of tables: the last place, place by place, two added, and a bound. Assumes nothing.
 use mathlib.Core.Path.{_≡_, refl, sym, ap, _∙_}
 use mathlib.Core.List.{List, map}
 use Prim.Native.Nat.{ℕ, zero, suc, _+_, _*_, _≤_, _<_}
 use native.Mathlib.Omega.{arith}
 use lib.ListN.{length, getD}
 use Rattle.rack.specs.Lists.{sum, tabulate}
 use Rattle.rack.proofs.Tables.{tabulate-ext, tabulate-getD, map-tabulate}
 
 -- THE LAST PLACE
 pub sum-none : (f : ℕ → ℕ) → sum (tabulate 0 f) ≡ 0
@@ -42,16 +42,3 @@ sum-le (suc n) b f h = omega (arith, h 0 (omega arith), sum-le n b (λ i. f (suc
 -- a list's elements, each by its place
 pub sum-map : {A : Type 0} (g : A → ℕ) (xs : List A) (d : A) → sum (map g xs) ≡ sum (tabulate (length xs) (λ i. g (getD xs i d)))
 sum-map g xs d = ap (λ (ys : List _). sum (map g ys)) (sym (tabulate-getD xs d)) ∙ ap sum (map-tabulate g (length xs) (λ i. getD xs i d))
-
--- OVER PAIRS: each number below n with those below it
-abbrev pub pairs : (n : ℕ) → (ℕ → ℕ → ℕ) → ℕ
-pairs n d = sum (tabulate n (λ a. sum (tabulate a (d a))))
-
-pub pairs-ext : (n : ℕ) (d e : ℕ → ℕ → ℕ) → ((a b : ℕ) → a < n → b < a → d a b ≡ e a b) → pairs n d ≡ pairs n e
-pairs-ext n d e h = sum-ext n _ _ (λ a i. sum-ext a (d a) (e a) (λ b j. h a b i j))
-
-pub pairs-add : (n : ℕ) (d e : ℕ → ℕ → ℕ) → pairs n (λ a b. d a b + e a b) ≡ pairs n d + pairs n e
-pairs-add n d e = sum-ext n _ _ (λ a i. sum-add a (d a) (e a)) ∙ sum-add n (λ a. sum (tabulate a (d a))) (λ a. sum (tabulate a (e a)))
-
-pub pairs-zero : (n : ℕ) → pairs n (λ a b. 0) ≡ 0
-pairs-zero n = sum-ext n _ (λ a. 0) (λ a i. sum-same a 0 ∙ omega arith) ∙ sum-same n 0 ∙ omega arith
