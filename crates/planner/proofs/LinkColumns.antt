@@ -1,7 +1,6 @@
 -- What the planner finds at a link: the columns opened so far separate its ends or not, and there is room for one more or not. Assumes nothing.
-use mathlib.Core.Path.{_≡_, refl, sym, ap₂, subst, _∙_}
+use mathlib.Core.Path.{_≡_, refl, sym, subst, _∙_}
 use mathlib.Core.Bool.{Bool, true, false}
-use mathlib.Core.Logic.{_≢_}
 use mathlib.Core.List.{List, [], _∷_, _++_}
 use Prim.Native.Nat.{ℕ, _+_, _-_, _*_, _/_, _%_, _^_, _≤_, _<_}
 use native.Mathlib.Numerals.{add-one}
@@ -10,14 +9,14 @@ use lib.ListN.{length, getD, take, drop, replicate, length-append}
 use lib.Seq.{take-suc, take-add}
 use Rattle.rack.specs.Limits.{lent-words}
 use Rattle.rack.specs.Wiring.{Link, Wiring, link, link-count, link-at}
-use Rattle.rack.specs.Columns.{column, hamming}
+use Rattle.rack.specs.Columns.{column}
 use Rattle.rack.specs.WiringFile.{file-wiring}
-use Rattle.rack.proofs.Logic.{by-bool, not-true-false}
+use Rattle.rack.proofs.Logic.{by-bool}
 use Rattle.rack.proofs.WiringFile.{wiring-at-cards, wiring-at-count}
 use Rattle.rack.specs.Formed.{Formed}
 use Rattle.survey.specs.Tables.{Hops-in}
-use Rattle.planner.specs.OpenColumns.{bit-in, separated, open-column, open-columns, columns-opened, Words-of, Columns-opened, Column-added, words-hamming}
-use Rattle.planner.proofs.AddressWords.{words-hamming-columns, separated-hamming, unseparated-hamming, zero-words}
+use Rattle.planner.specs.OpenColumns.{separated, open-column, open-columns, columns-opened, Words-of, Columns-opened, Column-added, Same-words}
+use Rattle.planner.proofs.AddressWords.{same-unseparated, other-separated, zero-words}
 use Rattle.planner.proofs.AddedColumn.{free-place, words-added}
 
 -- LINK BY LINK
@@ -38,8 +37,8 @@ unseparated-more : (w : Wiring) (l : Link) (cs : List (List Bool)) → separated
 unfolding open-column
 unseparated-more w l cs h = rw h
 
--- ONE LINK of a file: its ends p and q, and the differing places d of their words
-pub record At-link (bs h ws : List ℕ) (n m i k p q d : ℕ) : Type 0 where
+-- ONE LINK of a file, with its ends p and q
+pub record At-link (bs h ws : List ℕ) (n m i k p q : ℕ) : Type 0 where
   pub formed : Formed bs n m
   pub inside : i < m
   pub hops : Hops-in (file-wiring bs) h
@@ -47,9 +46,8 @@ pub record At-link (bs h ws : List ℕ) (n m i k p q d : ℕ) : Type 0 where
   pub before : Columns-opened (file-wiring bs) n i ws k
   pub first : p ≡ link-at (file-wiring bs) i .first
   pub second : q ≡ link-at (file-wiring bs) i .second
-  pub places : d ≡ words-hamming ws p q
 
-module _ {bs h ws : List ℕ} {n m i k p q d : ℕ} (x : At-link bs h ws n m i k p q d) where
+module _ {bs h ws : List ℕ} {n m i k p q : ℕ} (x : At-link bs h ws n m i k p q) where
   abbrev w : Wiring
   w = file-wiring bs
 
@@ -68,36 +66,40 @@ module _ {bs h ws : List ℕ} {n m i k p q d : ℕ} (x : At-link bs h ws n m i k
   few : length (columns-opened w i) < 256
   few = omega (arith, count, x .room, x .formed .sizes .few)
 
-  ends-hamming : d ≡ hamming (length (columns-opened w i)) (bit-in (columns-opened w i) (l .first)) (bit-in (columns-opened w i) (l .second))
-  ends-hamming =
-      x .places ∙ ap₂ (words-hamming ws) (x .first) (x .second)
-      ∙ words-hamming-columns (columns-opened w i) n ws (x .before .words (x .room)) (omega (arith, few)) (l .first) (l .second)
-      (x .formed .first i (x .inside)) (x .formed .second i (x .inside))
+  same-ends : Same-words ws p q → Same-words ws (l .first) (l .second)
+  same-ends z = subst (λ (v : ℕ). Same-words ws (l .first) v) (x .second) (subst (λ (u : ℕ). Same-words ws u q) (x .first) z)
 
-  ends-separated : d ≢ 0 → separated l (columns-opened w i) ≡ true
-  ends-separated z = by-bool (separated l (columns-opened w i)) (λ e. e) (λ e. absurd (z (ends-hamming ∙ unseparated-hamming l (columns-opened w i) e)))
+  ends-same : Same-words ws (l .first) (l .second) → Same-words ws p q
+  ends-same z = subst (λ (v : ℕ). Same-words ws p v) (sym (x .second)) (subst (λ (u : ℕ). Same-words ws u (l .second)) (sym (x .first)) z)
 
-  ends-unseparated : d ≡ 0 → separated l (columns-opened w i) ≡ false
-  ends-unseparated z = not-true-false (separated l (columns-opened w i)) (λ e. separated-hamming l (columns-opened w i) e (sym ends-hamming ∙ z))
+  ends-separated : (Same-words ws p q → ⊥) → separated l (columns-opened w i) ≡ true
+  ends-separated z =
+      other-separated (columns-opened w i) n ws (x .before .words (x .room)) (omega (arith, few)) l (x .formed .first i (x .inside)) (x .formed .second i (x .inside))
+      (λ e. z (ends-same e))
 
-  pub link-separated : d ≢ 0 → Columns-opened w n (i + 1) ws k
+  ends-unseparated : Same-words ws p q → separated l (columns-opened w i) ≡ false
+  ends-unseparated z =
+      same-unseparated (columns-opened w i) n ws (x .before .words (x .room)) (omega (arith, few)) l (x .formed .first i (x .inside)) (x .formed .second i (x .inside))
+      (same-ends z)
+
+  pub link-separated : (Same-words ws p q → ⊥) → Columns-opened w n (i + 1) ws k
   link-separated z =
       let e : columns-opened w (i + 1) ≡ columns-opened w i = columns-opened-next w i counted ∙ separated-same w l (columns-opened w i) (ends-separated z) in
       record { most = x .before .most; count = λ g. rw e (x .before .count g); words = λ g. rw e (x .before .words g); full = λ g. rw e (x .before .full g) }
 
-  one-more : d ≡ 0 → columns-opened w (i + 1) ≡ columns-opened w i ++ (column w l ∷ [])
+  one-more : Same-words ws p q → columns-opened w (i + 1) ≡ columns-opened w i ++ (column w l ∷ [])
   one-more z = columns-opened-next w i counted ∙ unseparated-more w l (columns-opened w i) (ends-unseparated z)
 
-  one-more-count : d ≡ 0 → k + 1 ≡ length (columns-opened w (i + 1))
+  one-more-count : Same-words ws p q → k + 1 ≡ length (columns-opened w (i + 1))
   one-more-count z = rw (one-more z) (omega (arith, length-append (columns-opened w i) (column w l ∷ []), count))
 
-  pub link-full : d ≡ 0 → n ≤ k + 1 → Columns-opened w n (i + 1) ws n
+  pub link-full : Same-words ws p q → n ≤ k + 1 → Columns-opened w n (i + 1) ws n
   link-full z g = record { most = omega arith; count = λ y. absurd (omega arith); words = λ y. absurd (omega arith); full = λ y. omega (arith, one-more-count z) }
 
   pub link-free : (c : ℕ) → c < n → getD ws (4 * c + k / 64) 0 < 2 ^ (k % 64)
   link-free = free-place (columns-opened w i) n ws k (x .before .words (x .room)) count (omega (arith, few, count))
 
-  pub link-added : d ≡ 0 → k + 1 < n → (new : List ℕ) → Column-added h ws new p q k n → Columns-opened w n (i + 1) new (k + 1)
+  pub link-added : Same-words ws p q → k + 1 < n → (new : List ℕ) → Column-added h ws new p q k n → Columns-opened w n (i + 1) new (k + 1)
   link-added z g new a =
       record {
         most = omega arith;

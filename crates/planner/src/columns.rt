@@ -1,38 +1,32 @@
 // Columns and the words of the addresses: a link opens a column where its ends have the same address so far.
 ghost use mathlib.Core.Path.{_≡_};
+ghost use mathlib.Core.Bool.{true, false};
 ghost use Prim.Native.Nat.{ℕ, _+_, _*_, _/_, _%_, _^_, _<_, _≤_};
 ghost use lib.ListN.{length, getD, replicate};
 ghost use Rattle.rack.specs.Limits.{lent-hops, lent-words, most-cards, most-columns};
 ghost use Rattle.rack.specs.Lists.{one};
-ghost use Rattle.counting.specs.Ones.{Counts};
 ghost use Rattle.rack.specs.WiringFile.{file-wiring};
 ghost use Rattle.rack.specs.Formed.{Formed};
 ghost use Rattle.survey.specs.Tables.{Hops-in};
-ghost use Rattle.planner.specs.OpenColumns.{Column-added, Columns-opened, part-hamming, side-in, words-hamming};
-use counting::places::word_hamming;
+ghost use Rattle.planner.specs.OpenColumns.{Column-added, Columns-opened, Same-words, side-in};
 use rack::bytes::first_end;
 use rack::bytes::second_end;
 use rack::limits::MOST_CARDS;
 
-// The places in which words `t` of two cards differ.
-fn part_hamming(ones: &[u8; 256], words: &[u64], a: usize, b: usize, t: usize) -> u32
-    requires { ⌜ Counts (now ones) × (length (now words) ≡ lent-words) × (a < most-cards) × (b < most-cards) × (t < 4) ⌝ }
-    ensures is { λ r. ⌜ r ≡ part-hamming (now (words .entry)) a b t ⌝ }
-    ensures few { λ r. ⌜ r ≤ 64 ⌝ }
+// Whether the words of two cards differ. Nothing is counted: one place is enough.
+fn words_differ(words: &[u64], a: usize, b: usize) -> bool
+    requires { ⌜ (length (now words) ≡ lent-words) × (a < most-cards) × (b < most-cards) ⌝ }
+    ensures differ { λ r. ⌜ (r ≡ true → Same-words (now (words .entry)) a b → ⊥) ⌝ }
+    ensures same { λ r. ⌜ (r ≡ false → Same-words (now (words .entry)) a b) ⌝ }
 {
-    word_hamming(ones, words[4 * a + t], words[4 * b + t])
-}
-
-// The places in which the words of two cards differ.
-pub fn card_hamming(ones: &[u8; 256], words: &[u64], a: usize, b: usize) -> u32
-    requires { ⌜ Counts (now ones) × (length (now words) ≡ lent-words) × (a < most-cards) × (b < most-cards) ⌝ }
-    ensures { λ r. ⌜ r ≡ words-hamming (now (words .entry)) a b ⌝ }
-{
-    let p = part_hamming(ones, words, a, b, 0);
-    let q = part_hamming(ones, words, a, b, 1);
-    let r = part_hamming(ones, words, a, b, 2);
-    let s = part_hamming(ones, words, a, b, 3);
-    p + q + r + s
+    let mut t: usize = 0;
+    while t < 4 {
+        if words[4 * a + t] != words[4 * b + t] {
+            return true;
+        }
+        t += 1;
+    }
+    false
 }
 
 // `weight` where card `c` is in the set without card 0 at a link from `p` to `q`, else 0.
@@ -68,7 +62,6 @@ fn add_column(hops: &[u8], n: usize, p: usize, q: usize, k: usize, words: &mut [
 
 // Opens a column for link `i` where the addresses of its ends are equal so far; gives the number of columns, or `n` where there is no room for one more.
 fn open_link(
-    ones: &[u8; 256],
     file: &[u8],
     n: usize,
     m: usize,
@@ -77,12 +70,12 @@ fn open_link(
     k: usize,
     words: &mut [u64],
 ) -> usize
-    requires { ⌜ Counts (now ones) × Formed (now file) n m × (i < m) × Hops-in (file-wiring (now file)) (now hops) × (k < n) × Columns-opened (file-wiring (now file)) n i (now words) k ⌝ }
+    requires { ⌜ Formed (now file) n m × (i < m) × Hops-in (file-wiring (now file)) (now hops) × (k < n) × Columns-opened (file-wiring (now file)) n i (now words) k ⌝ }
     ensures { λ r. ⌜ Columns-opened (file-wiring (now (file .entry))) n (i + 1) (now (words .exit)) r ⌝ }
 {
     let p = first_end(file, 4, m, i);
     let q = second_end(file, 4, m, i);
-    if card_hamming(ones, words, p, q) != 0 {
+    if words_differ(words, p, q) {
         return k;
     }
     if n <= k + 1 {
@@ -93,21 +86,14 @@ fn open_link(
 }
 
 // Opens the columns of all links, in words that are zero at entry.
-pub fn open_columns(
-    ones: &[u8; 256],
-    file: &[u8],
-    n: usize,
-    m: usize,
-    hops: &[u8],
-    words: &mut [u64],
-) -> usize
-    requires { ⌜ Counts (now ones) × Formed (now file) n m × Hops-in (file-wiring (now file)) (now hops) × (now words ≡ replicate lent-words 0) ⌝ }
+pub fn open_columns(file: &[u8], n: usize, m: usize, hops: &[u8], words: &mut [u64]) -> usize
+    requires { ⌜ Formed (now file) n m × Hops-in (file-wiring (now file)) (now hops) × (now words ≡ replicate lent-words 0) ⌝ }
     ensures { λ r. ⌜ Columns-opened (file-wiring (now (file .entry))) n m (now (words .exit)) r ⌝ }
 {
     let mut k: usize = 0;
     let mut i: usize = 0;
     while i < m {
-        k = open_link(ones, file, n, m, i, hops, k, words);
+        k = open_link(file, n, m, i, hops, k, words);
         if k == n {
             return n;
         }

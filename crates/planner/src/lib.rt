@@ -24,6 +24,7 @@ use columns::open_columns;
 use counting::ones::ones_table;
 use link_order::link_order;
 use pairs::pairs_measure;
+use pairs::words_used;
 use plan_writer::put_plan;
 use rack::bytes::number_at;
 use rack::fill::clear_bytes;
@@ -63,12 +64,12 @@ fn address_cards(file: &[u8], n: usize, m: usize, hops: &[u8], words: &mut [u64]
     requires { ⌜ Formed (now file) n m × (connected (file-wiring (now file)) ≡ true) × Hops-in (file-wiring (now file)) (now hops) × (now words ≡ replicate lent-words 0) ⌝ }
     ensures { λ r. ⌜ Addressed (file-wiring (now (file .entry))) n (now (words .exit)) r ⌝ }
 {
-    let ones = ones_table();
-    let k = open_columns(&ones, file, n, m, hops, words);
+    let k = open_columns(file, n, m, hops, words);
     if k == n {
         return n;
     }
-    if pairs_measure(&ones, words, hops, n) {
+    let ones = ones_table();
+    if pairs_measure(&ones, words, words_used(k), hops, n) {
         return k;
     }
     n

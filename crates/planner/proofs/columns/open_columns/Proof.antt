@@ -10,26 +10,26 @@ use Rattle.planner.proofs.columns.open_columns.Statement.{statement}
 use Rattle.planner.proofs.columns.open_columns.Tie as tie
 
 abbrev Inv-loop : tie.InvT-loop
-Inv-loop ones file n m hops words₀ k₀ i₀ words k i = (i ≤ m) × (k < n) × Columns-opened (file-wiring file) n i words k
+Inv-loop file n m hops words₀ k₀ i₀ words k i = (i ≤ m) × (k < n) × Columns-opened (file-wiring file) n i words k
 
 abbrev μ-loop : tie.MeasureT-loop
-μ-loop ones file n m hops words₀ k₀ i₀ words k i = m - i
+μ-loop file n m hops words₀ k₀ i₀ words k i = m - i
 
 loop-holds : tie.Need-loop-holds Inv-loop μ-loop
-loop-holds c = let s = c .before .before .before in (omega arith, s .pre .1 .sizes .some, no-columns-opened _ _ _ (s .pre .1 .sizes .some) (s .pre .3))
+loop-holds c = let s = c .before .before .before in (omega arith, s .pre .0 .sizes .some, no-columns-opened _ _ _ (s .pre .0 .sizes .some) (s .pre .2))
 
 open-link-requires : tie.Need-open-link-requires Inv-loop μ-loop
 open-link-requires c κs =
     let at-pre = c .before .before .before .before .before .before in
-    (at-pre .pre .0, at-pre .pre .1, omega arith, at-pre .pre .2, c .before .before .loop .inv .1, c .before .before .loop .inv .2)
+    (at-pre .pre .0, omega arith, at-pre .pre .1, c .before .before .loop .inv .1, c .before .before .loop .inv .2)
 
 same-length : tie.Need-same-length Inv-loop μ-loop
 same-length c =
     let at-open-link = c .before .before .before in
     let at-loop = at-open-link .before .before .before in
     let at-pre = at-loop .before .before .before .before in
-    at-open-link .open-link .kept .1 .1 .1 .1 .1 .1 .1 .0 ∙ at-loop .loop .inv .2 .words (at-loop .loop .inv .1) .long ∙ sym
-    (zero-words 0 _ (at-pre .pre .3) .long)
+    at-open-link .open-link .kept .1 .1 .1 .1 .1 .1 .0 ∙ at-loop .loop .inv .2 .words (at-loop .loop .inv .1) .long ∙ sym
+    (zero-words 0 _ (at-pre .pre .2) .long)
 
 returns : tie.Need-returns Inv-loop μ-loop
 returns c = full-columns-opened _ _ _ _ _ _ (omega arith) (c .if1 .taken) (c .before .before .before .open-link .ensures)
@@ -46,7 +46,7 @@ loop-again c = (omega arith, omega (arith, c .before .before .before .open-link 
 same-length-2 : tie.Need-same-length-2 Inv-loop μ-loop
 same-length-2 c =
     let at-pre = c .before .before .before .before .before in
-    c .before .loop .inv .2 .words (c .before .loop .inv .1) .long ∙ sym (zero-words 0 _ (at-pre .pre .3) .long)
+    c .before .loop .inv .2 .words (c .before .loop .inv .1) .long ∙ sym (zero-words 0 _ (at-pre .pre .2) .long)
 
 returns-2 : tie.Need-returns-2 Inv-loop μ-loop
 returns-2 c = let e : c .before .loop .i ≡ c .before .before .before .before .before .args .m = omega arith in rw e at (c .before .loop .inv .2)

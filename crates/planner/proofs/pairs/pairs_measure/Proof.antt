@@ -11,16 +11,16 @@ use Rattle.planner.proofs.pairs.pairs_measure.Statement.{statement}
 use Rattle.planner.proofs.pairs.pairs_measure.Tie as tie
 
 abbrev Inv-loop : tie.InvT-loop
-Inv-loop ones words hops n measured₀ a b₀ measured b = (b ≤ a) × (measured ≡ true) × ((x : ℕ) → x < b → words-hamming words a x ≡ cell hops a x)
+Inv-loop ones words used hops n measured₀ a b₀ measured b = (b ≤ a) × (measured ≡ true) × ((x : ℕ) → x < b → words-hamming words a x ≡ cell hops a x)
 
 abbrev μ-loop : tie.MeasureT-loop
-μ-loop ones words hops n measured₀ a b₀ measured b = a - b
+μ-loop ones words used hops n measured₀ a b₀ measured b = a - b
 
 abbrev Inv-pairs : tie.InvT-pairs
-Inv-pairs ones words hops n measured₀ a₀ measured a = (a ≤ n) × (measured ≡ true) × Pairs-measure words hops a
+Inv-pairs ones words used hops n measured₀ a₀ measured a = (a ≤ n) × (measured ≡ true) × Pairs-measure words hops a
 
 abbrev μ-pairs : tie.MeasureT-pairs
-μ-pairs ones words hops n measured₀ a₀ measured a = n - a
+μ-pairs ones words used hops n measured₀ a₀ measured a = n - a
 
 pairs-holds : tie.Need-pairs-holds Inv-loop μ-loop Inv-pairs μ-pairs
 pairs-holds c = (omega arith, refl, no-pairs _ _)
@@ -29,7 +29,7 @@ loop-holds : tie.Need-loop-holds Inv-loop μ-loop Inv-pairs μ-pairs
 loop-holds c = (omega arith, c .before .pairs .inv .1, λ x h. absurd (omega arith))
 
 card-hamming-requires : tie.Need-card-hamming-requires Inv-loop μ-loop Inv-pairs μ-pairs
-card-hamming-requires c κs = let s = c .before .before .before .before .before .before in (s .pre .0, s .pre .1, omega arith, omega arith)
+card-hamming-requires c κs = let s = c .before .before .before .before .before .before in (s .pre .0, s .pre .1, s .pre .2, omega arith, omega arith)
 
 mul-if1 : tie.Need-mul-if1 Inv-loop μ-loop Inv-pairs μ-pairs
 mul-if1 c = omega arith
