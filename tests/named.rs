@@ -52,7 +52,7 @@ pub fn check(both: &mut Both) {
     let read = both.read_plan(&p10);
     both.expect(read.code == 13, "P10: reading is not 13", &p10, &read);
     walked(both, "P10", &p10, [0, 2], &[0], [0, 0, 7, 9]);
-    chain_of_256(both);
+    chains(both);
     let wiring = racks::chain(257).bytes();
     planned(both, "257 cards", &wiring, 3, &[]);
     let mut rack = racks::cube(8);
@@ -112,28 +112,26 @@ fn walked(
     );
 }
 
-/// Card c has ones in the first c of its 255 columns.
-fn chain_of_256(both: &mut Both) {
-    let wiring = racks::chain(256).bytes();
-    let mut plan = wiring.clone();
-    plan.splice(4..4, [255, 0]);
-    for card in 0..256 {
-        let byte = |at: usize| {
-            (0..8)
-                .filter(|bit| 8 * at + bit < card)
-                .map(|bit| 1 << bit)
-                .sum::<u8>()
-        };
-        plan.extend((0..32).map(byte));
+/// Card c has ones in the first c columns. The lengths are those at which a byte or a word more of an address is used, and the longest.
+fn chains(both: &mut Both) {
+    for cards in [8, 9, 10, 64, 65, 66, 128, 129, 130, 256] {
+        let columns = cards - 1;
+        let wiring = racks::chain(cards).bytes();
+        let mut plan = wiring.clone();
+        plan.splice(4..4, [columns as u8, 0]);
+        for card in 0..cards {
+            let byte = |at: usize| {
+                (0..8)
+                    .filter(|bit| 8 * at + bit < card)
+                    .map(|bit| 1 << bit)
+                    .sum::<u8>()
+            };
+            plan.extend((0..columns.div_ceil(8)).map(byte));
+        }
+        let name = format!("chain of {cards} cards");
+        planned(both, &name, &wiring, 0, &plan);
+        let all: Vec<usize> = (0..cards).collect();
+        let last = columns as u32;
+        walked(both, &name, &plan, [0, last], &all, [1, last, 8, 9 + last]);
     }
-    planned(both, "chain of 256 cards", &wiring, 0, &plan);
-    let all: Vec<usize> = (0..256).collect();
-    walked(
-        both,
-        "chain of 256 cards",
-        &plan,
-        [0, 255],
-        &all,
-        [1, 255, 8, 264],
-    );
 }
