@@ -7,6 +7,7 @@ ghost use Rattle.rack.specs.Columns.{hamming};
 ghost use Rattle.rack.specs.Limits.{most-columns};
 ghost use Rattle.rack.specs.PlanFile.{address-size, bit-from};
 ghost use Rattle.counting.specs.Ones.{Counts, ones-in};
+use rack::plan_file::address_size;
 
 // The ones in a byte: its entry in the table.
 fn byte_ones(ones: &[u8; 256], z: u8) -> u32
@@ -85,7 +86,7 @@ pub fn bits_hamming(ones: &[u8; 256], bytes: &[u8], first: usize, second: usize,
 {
     let whole = k / 8;
     let sum = bytes_hamming(ones, bytes, first, second, whole);
-    if k % 8 == 0 {
+    if address_size(k) == whole {
         return sum;
     }
     sum + low_hamming(ones, bytes[first + whole], bytes[second + whole], k % 8)
