@@ -45,7 +45,7 @@ extern "C" {
 #endif
 
 /* Raised with each section of docs/LANDINGS.md. */
-#define JOLVENTE_VERSION "0.10"
+#define JOLVENTE_VERSION "0.11"
 
 /* The longest wiring file, the longest plan file, and lent lengths. */
 enum {
