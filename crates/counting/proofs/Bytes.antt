@@ -26,7 +26,7 @@ cut-bit z k i =
     let f : 0 / 2 ^ i ≡ 0 = zero-div (2 ^ i) in
     sym (number-bit-high (z % 2 ^ k) k i) ∙ rw (e, f) refl
 
-pub hamming-cut : (x y k l : ℕ) → k ≤ l → hamming l (number-bit (x % 2 ^ k)) (number-bit (y % 2 ^ k)) ≡ hamming k (number-bit x) (number-bit y)
+hamming-cut : (x y k l : ℕ) → k ≤ l → hamming l (number-bit (x % 2 ^ k)) (number-bit (y % 2 ^ k)) ≡ hamming k (number-bit x) (number-bit y)
 hamming-cut x y k l h =
     let e : l ≡ k + (l - k) = omega arith in
     let u = number-bit (x % 2 ^ k) in
