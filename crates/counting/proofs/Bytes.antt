@@ -2,7 +2,7 @@
 use mathlib.Core.Path.{_≡_, refl, sym, ap, ap₂, _∙_}
 use mathlib.Core.Bool.{false}
 use mathlib.Core.List.{List}
-use Prim.Native.Nat.{ℕ, zero, suc, _+_, _*_, _-_, _/_, _%_, _^_, _≤_, _<_}
+use Prim.Native.Nat.{ℕ, zero, suc, _+_, _*_, _/_, _%_, _^_, _≤_, _<_}
 use native.Mathlib.Nat.{zero-div, div-eq-of-lt, mod-le, mod-lt}
 use native.Mathlib.Omega.{arith}
 use lib.Bits.{bitXor, xor-mod}
@@ -13,7 +13,7 @@ use Rattle.rack.specs.Bits.{bits-of, number-bit}
 use Rattle.rack.specs.Columns.{hamming}
 use Rattle.rack.specs.PlanFile.{bit-from}
 use Rattle.rack.proofs.Bits.{number-bit-high, number-bit-low, bit-weight}
-use Rattle.rack.proofs.Hamming.{hamming-none, hamming-add, hamming-ext, hamming-same}
+use Rattle.rack.proofs.Hamming.{hamming-none, hamming-add, hamming-ext, hamming-front}
 use Rattle.rack.proofs.Sums.{sum-none, sum-suc}
 use Rattle.counting.specs.Ones.{Counts}
 use Rattle.counting.proofs.TableRule.{entry-places}
@@ -28,13 +28,10 @@ cut-bit z k i =
 
 hamming-cut : (x y k l : ℕ) → k ≤ l → hamming l (number-bit (x % 2 ^ k)) (number-bit (y % 2 ^ k)) ≡ hamming k (number-bit x) (number-bit y)
 hamming-cut x y k l h =
-    let e : l ≡ k + (l - k) = omega arith in
     let u = number-bit (x % 2 ^ k) in
     let v = number-bit (y % 2 ^ k) in
-    ap (λ (n : ℕ). hamming n u v) e ∙ hamming-add k (l - k) u v
-    ∙ ap₂ _+_ (hamming-ext k u v (number-bit x) (number-bit y) (number-bit-low x k) (number-bit-low y k))
-    (hamming-same (l - k) (λ i. u (k + i)) (λ i. v (k + i)) (λ j i. cut-bit x k j ∙ sym (cut-bit y k j)))
-    ∙ omega arith
+    hamming-front k l u v h (λ j. cut-bit x k j ∙ sym (cut-bit y k j))
+    ∙ hamming-ext k u v (number-bit x) (number-bit y) (number-bit-low x k) (number-bit-low y k)
 
 pub hamming-low-bits : (x y k : ℕ) → k < 8
     → hamming 8 (number-bit (x % (1 * 2 ^ k % 256))) (number-bit (y % (1 * 2 ^ k % 256))) ≡ hamming k (number-bit x) (number-bit y)

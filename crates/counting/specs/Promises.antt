@@ -16,7 +16,7 @@ use Rattle.counting.specs.Ones.{Counts, table-holds}
 unfoldable pub Table-rule : Type 0
 Table-rule = (table : List ℕ) → (table-holds table ≡ true) ↔ Counts table
 
--- "count them byte by byte with that table": the entry of a byte is the ones in the exclusive or, and these are the places that differ
+-- "count them byte by byte with that table": the places in which n bytes differ are the entries at the exclusive or of the bytes, added up
 unfoldable pub Hamming-by-table : Type 0
 Hamming-by-table =
     (table : List ℕ) (n : ℕ) (x y : ℕ → ℕ) → Counts table → ((t : ℕ) → t < n → (x t < 256) × (y t < 256)) →

@@ -3,7 +3,7 @@ use mathlib.Core.Path.{_≡_, refl, sym, ap, _∙_}
 use mathlib.Core.Bool.{Bool, true, false}
 use mathlib.Core.Logic.{_≢_}
 use mathlib.Core.List.{List, [], _∷_, _++_}
-use Prim.Native.Nat.{ℕ, _+_, _*_, _-_, _/_, _%_, _≤_, _<_}
+use Prim.Native.Nat.{ℕ, _+_, _*_, _/_, _%_, _≤_, _<_}
 use native.Mathlib.Omega.{arith}
 use lib.ListN.{length, getD, replicate, length-append, length-replicate, getD-replicate, List·getD-append, List·getD-eq-default}
 use lib.Seq.{getD-append-seam}
@@ -16,7 +16,7 @@ use Rattle.rack.proofs.Logic.{true-not-false, not-true-false, by-bool, by-lt, d
 use Rattle.rack.proofs.Lists.{any-in, in-any, count-none, none-count}
 use Rattle.rack.proofs.Tables.{in-range}
 use Rattle.rack.proofs.Bits.{bits-value-number, bits-value-few, bits-value-ext}
-use Rattle.rack.proofs.Hamming.{hamming-none, hamming-ext, hamming-add, hamming-same}
+use Rattle.rack.proofs.Hamming.{hamming-none, hamming-ext, hamming-add, hamming-same, hamming-front}
 use Rattle.rack.proofs.Columns.{hamming-count}
 use Rattle.planner.specs.Words.{word-bit}
 use Rattle.planner.specs.OpenColumns.{bit-in, separated, columns-opened, Words-of, Columns-opened, Same-words, Words-used, part-hamming, words-hamming}
@@ -79,15 +79,9 @@ pub words-hamming-columns : (cs : List (List Bool)) (n : ℕ) (ws : List ℕ) �
     → words-hamming ws a b ≡ hamming (length cs) (bit-in cs a) (bit-in cs b)
 unfolding words-hamming
 words-hamming-columns cs n ws s few a b ha hb =
-    let e : 256 ≡ length cs + (256 - length cs) = omega arith in
     hamming-ext 256 (word-bit ws a) (word-bit ws b) (bit-in cs a) (bit-in cs b) (λ j l. word-bit-column cs n ws s a j ha l) (λ j l. word-bit-column cs n ws s b j hb l)
-    ∙ ap (λ (k : ℕ). hamming k (bit-in cs a) (bit-in cs b)) e
-    ∙ hamming-add (length cs) (256 - length cs) (bit-in cs a) (bit-in cs b)
-    ∙ omega (
-      arith,
-      hamming-same (256 - length cs) (λ j. bit-in cs a (length cs + j)) (λ j. bit-in cs b (length cs + j))
-          (λ j l. bit-past cs a (length cs + j) (omega arith) ∙ sym (bit-past cs b (length cs + j) (omega arith))),
-    )
+    ∙ hamming-front (length cs) 256 (bit-in cs a) (bit-in cs b) few
+    (λ j. bit-past cs a (length cs + j) (omega arith) ∙ sym (bit-past cs b (length cs + j) (omega arith)))
 
 -- WORDS THAT ARE NOT USED: past the last column no card has a bit, and no place differs
 words-used : (cs : List (List Bool)) (n : ℕ) (ws : List ℕ) (used : ℕ) → Words-of cs n ws → length cs ≤ 64 * used → Words-used ws used

@@ -1,7 +1,7 @@
--- Differing places of two rows of bits: at most as many as there are, piece by piece, and of equal rows. Assumes nothing.
-use mathlib.Core.Path.{_≡_, refl, ap₂}
+-- Differing places of two rows of bits: at most as many as there are, piece by piece, and of rows that agree. Assumes nothing.
+use mathlib.Core.Path.{_≡_, refl, ap, ap₂, _∙_}
 use mathlib.Core.Bool.{Bool}
-use Prim.Native.Nat.{ℕ, _+_, _≤_, _<_}
+use Prim.Native.Nat.{ℕ, _+_, _-_, _≤_, _<_}
 use native.Mathlib.Omega.{arith}
 use Rattle.rack.specs.Lists.{differ, range}
 use Rattle.rack.specs.Columns.{hamming}
@@ -29,6 +29,13 @@ hamming-add m n x y = count-range-add (λ j. differ (x j) (y j)) m n
 pub hamming-same : (k : ℕ) (x y : ℕ → Bool) → ((j : ℕ) → j < k → x j ≡ y j) → hamming k x y ≡ 0
 unfolding hamming
 hamming-same k x y f = none-count (λ j. differ (x j) (y j)) (range k) (λ j i. rw (f j (range-in k j i)) (differ-self (y j)))
+
+-- rows that agree from place k on differ in the first k places alone
+pub hamming-front : (k l : ℕ) (x y : ℕ → Bool) → k ≤ l → ((j : ℕ) → x (k + j) ≡ y (k + j)) → hamming l x y ≡ hamming k x y
+hamming-front k l x y h same =
+    let e : l ≡ k + (l - k) = omega arith in
+    ap (λ (n : ℕ). hamming n x y) e ∙ hamming-add k (l - k) x y
+    ∙ omega (arith, hamming-same (l - k) (λ j. x (k + j)) (λ j. y (k + j)) (λ j i. same j))
 
 pub hamming-sym : (k : ℕ) (x y : ℕ → Bool) → hamming k x y ≡ hamming k y x
 unfolding hamming

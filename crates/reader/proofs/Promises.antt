@@ -16,7 +16,7 @@ use Rattle.rack.specs.WiringFile.{file-wiring, file-refusal, file-bytes}
 use Rattle.rack.specs.Bits.{number-bit, bits-value}
 use Rattle.rack.specs.Columns.{column-count, address, hamming}
 use Rattle.rack.proofs.Logic.{by-bool, by-eq, by-lt}
-use Rattle.rack.proofs.Hamming.{hamming-ext, hamming-add, hamming-same}
+use Rattle.rack.proofs.Hamming.{hamming-ext, hamming-front}
 use Rattle.rack.proofs.Hops.{connected-all}
 use Rattle.rack.proofs.Columns.{past-columns}
 use Rattle.rack.proofs.Accepted.{Accepted, wiring-accepted, accepted-inside, file-clear, clear-file}
@@ -111,17 +111,11 @@ module _ (ps : List ℕ) (h : plan-refusal ps ≡ 0) where
   bytes-measure a b ha hb =
       let k = column-count inner in
       let size = address-size k in
-      let e : 8 * size ≡ k + (8 * size - k) = omega (arith, address-size-is k) in
       rw read-columns (hamming-ext (8 * size) (plan-bit ps a) (plan-bit ps b) (address inner a) (address inner b)
       (λ j l. read-byte-bit a j ha (omega arith)) (λ j l. read-byte-bit b j hb (omega arith))
-      ∙ ap (λ (n : ℕ). hamming n (address inner a) (address inner b)) e
-      ∙ hamming-add k (8 * size - k) (address inner a) (address inner b)
-      ∙ omega (
-        arith,
-        read-accepted .embedding a b ha hb,
-        hamming-same (8 * size - k) (λ j. address inner a (k + j)) (λ j. address inner b (k + j))
-            (λ j l. past-columns inner a (k + j) (omega arith) ∙ sym (past-columns inner b (k + j) (omega arith))),
-      ))
+      ∙ hamming-front k (8 * size) (address inner a) (address inner b) (omega (arith, address-size-is k))
+      (λ j. past-columns inner a (k + j) (omega arith) ∙ sym (past-columns inner b (k + j) (omega arith)))
+      ∙ read-accepted .embedding a b ha hb)
 
   read-hamming : (a b : ℕ) → a < inner .cards → b < inner .cards → plan-hamming ps a b ≡ hops inner a b
   unfolding plan-hamming
