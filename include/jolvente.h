@@ -13,7 +13,7 @@
  *    5  the wiring file is not 4 + 4 x links bytes long; it may be cut, or no wiring file
  *    6  this link has an end that is no card
  *    7  this link has both ends at one card
- *    8  this link joins the same two cards as an earlier one
+ *    8  this link is a third one between the same two cards
  *    9  this card cannot be reached from card 0
  *   10  this link closes a loop of an odd number of links, so no addresses exist
  *   11  no addresses exist, though no loop is odd; look for two cards with three common neighbours
@@ -27,7 +27,8 @@
  *
  * A record is 16 lent bytes: four numbers of 32 bits, low byte first. Numbers in files have 16 bits, low byte first.
  *
- *   Wiring file: cards n, links m, then m first ends, then m second ends.
+ *   Wiring file: cards n, links m, then m first ends, then m second ends. Two links may join the same two cards, drawn either way; of the
+ *   two, frames take the one with the lower number.
  *   Plan file: n, m, columns k, the same two arrays, then n addresses of (k + 7) / 8 bytes each; column j is bit j % 8
  *   of byte j / 8, bit 0 counting 1.
  *

@@ -35,6 +35,7 @@ pub fn check(both: &mut Both) {
         (chain(MOST_CARDS), chain_total(MOST_CARDS)),
         (star(MOST_CARDS), star_total(MOST_CARDS)),
         (cube(8), 131_072),
+        (cube(8).twice(), 131_072),
     ] {
         let plan = &plan_of(&rack);
         for [adding, _] in CHANGES {
@@ -62,8 +63,9 @@ pub fn check(both: &mut Both) {
     }
 }
 
-/// Racks whose last card does not hang on the last link alone: the only card, cards with more links, and with another link.
-fn racks_for_17() -> [Rack; 9] {
+/// Racks whose last card does not hang on the last link alone: the only card, cards with more links, with a doubled one, and with another
+/// link.
+fn racks_for_17() -> [Rack; 14] {
     let of = |cards, links: &[(usize, usize)]| Rack {
         cards,
         links: links.to_vec(),
@@ -80,6 +82,11 @@ fn racks_for_17() -> [Rack; 9] {
         of(4, &[(3, 0), (3, 1), (3, 2)]),
         of(4, &[(0, 1), (2, 3), (1, 2)]),
         long_chain,
+        of(2, &[(0, 1), (1, 0)]),
+        of(3, &[(0, 1), (1, 2), (1, 2)]),
+        of(3, &[(2, 1), (0, 1), (1, 2)]),
+        chain(MOST_CARDS).twice(),
+        cube(8).twice(),
     ]
 }
 

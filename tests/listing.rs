@@ -1,6 +1,5 @@
 //! Compares what the listing program prints with the second implementation: `listing PROGRAM WIRING...`.
-//! The files of 2,048 links, which are the longest, are made here. No rack of so many links is accepted: an accepted one of
-//! 256 cards has at most 1,024.
+//! The longest files, those of 2,048 links, are made here where they are refused; the one that is accepted is among the examples.
 
 #[allow(dead_code)]
 mod racks;
@@ -71,9 +70,10 @@ fn expected(file: &[u8]) -> String {
 
 /// Files of 8,196 bytes, good links throughout or the last one in fault, and longer ones.
 fn longest_files() -> Vec<(&'static str, Vec<u8>)> {
-    let with_last = |link| {
+    let with_last = |links: &[(usize, usize)]| {
         let mut rack = two_sides_of_sixteen_each();
-        rack.links[2_047] = link;
+        rack.links.truncate(2_048 - links.len());
+        rack.links.extend(links);
         rack.bytes()
     };
     let good = two_sides_of_sixteen_each().bytes();
@@ -81,10 +81,10 @@ fn longest_files() -> Vec<(&'static str, Vec<u8>)> {
     let longer = |more| [good.clone(), vec![0; more]].concat();
     vec![
         ("refused 11\n", good.clone()),
-        ("refused 10 link 2047\n", with_last((1, 2))),
-        ("refused 8 link 2047\n", with_last((128, 0))),
-        ("refused 7 link 2047\n", with_last((255, 255))),
-        ("refused 6 link 2047\n", with_last((0, 256))),
+        ("refused 10 link 2047\n", with_last(&[(1, 2)])),
+        ("refused 8 link 2047\n", with_last(&[(0, 128), (128, 0)])),
+        ("refused 7 link 2047\n", with_last(&[(255, 255)])),
+        ("refused 6 link 2047\n", with_last(&[(0, 256)])),
         ("refused 5\n", good[..8_195].to_vec()),
         ("refused 5\n", longer(1)),
         ("refused 5\n", longer(10_000)),

@@ -1,13 +1,30 @@
 //! The cases that the rules name, with their answers byte by byte.
 
 use crate::both::Both;
-use crate::racks;
+use crate::racks::{self, Rack};
 
 /// Name, wiring file, returned number and plan file.
-const PLANNED: [(&str, &str, u32, &str); 8] = [
+const PLANNED: [(&str, &str, u32, &str); 10] = [
     ("P1", "01 00 00 00", 0, "01 00 00 00 00 00"),
     ("P2", "02 00 00 00", 9 + 256, ""),
-    ("P3", "02 00 02 00 00 00 01 00 01 00 00 00", 8 + 256, ""),
+    (
+        "P3",
+        "02 00 02 00 00 00 01 00 01 00 00 00",
+        0,
+        "02 00 02 00 01 00 00 00 01 00 01 00 00 00 00 01",
+    ),
+    (
+        "P3 with a third link",
+        "02 00 03 00 00 00 01 00 00 00 01 00 00 00 01 00",
+        8 + 2 * 256,
+        "",
+    ),
+    (
+        "P3 with a link of no card 2 behind it",
+        "02 00 03 00 00 00 01 00 00 00 01 00 00 00 02 00",
+        6 + 2 * 256,
+        "",
+    ),
     (
         "P4",
         "03 00 02 00 00 00 01 00 01 00 02 00",
@@ -53,6 +70,7 @@ pub fn check(both: &mut Both) {
     both.expect(read.code == 13, "P10: reading is not 13", &p10, &read);
     walked(both, "P10", &p10, [0, 2], &[0], [0, 0, 7, 9]);
     chains(both);
+    twins(both);
     let wiring = racks::chain(257).bytes();
     planned(both, "257 cards", &wiring, 3, &[]);
     let mut rack = racks::cube(8);
@@ -112,26 +130,51 @@ fn walked(
     );
 }
 
-/// Card c has ones in the first c columns. The lengths are those at which a byte or a word more of an address is used, and the longest.
+/// The lengths are those at which a byte or a word more of an address is used, and the longest; the longest with each link doubled too.
 fn chains(both: &mut Both) {
     for cards in [8, 9, 10, 64, 65, 66, 128, 129, 130, 256] {
-        let columns = cards - 1;
-        let wiring = racks::chain(cards).bytes();
-        let mut plan = wiring.clone();
-        plan.splice(4..4, [columns as u8, 0]);
-        for card in 0..cards {
-            let byte = |at: usize| {
-                (0..8)
-                    .filter(|bit| 8 * at + bit < card)
-                    .map(|bit| 1 << bit)
-                    .sum::<u8>()
-            };
-            plan.extend((0..columns.div_ceil(8)).map(byte));
-        }
-        let name = format!("chain of {cards} cards");
-        planned(both, &name, &wiring, 0, &plan);
-        let all: Vec<usize> = (0..cards).collect();
-        let last = columns as u32;
-        walked(both, &name, &plan, [0, last], &all, [1, last, 8, 9 + last]);
+        chain(both, &format!("chain of {cards} cards"), &racks::chain(cards));
     }
+    let doubled = racks::chain(256).twice();
+    chain(both, "chain of 256 cards, each link doubled", &doubled);
+}
+
+/// Card c has ones in the first c columns, and is the c-th met from end to end.
+fn chain(both: &mut Both, name: &str, rack: &Rack) {
+    let cards = rack.cards;
+    let columns = cards - 1;
+    let wiring = rack.bytes();
+    let mut plan = wiring.clone();
+    plan.splice(4..4, [columns as u8, 0]);
+    for card in 0..cards {
+        let byte = |at: usize| {
+            (0..8)
+                .filter(|bit| 8 * at + bit < card)
+                .map(|bit| 1 << bit)
+                .sum::<u8>()
+        };
+        plan.extend((0..columns.div_ceil(8)).map(byte));
+    }
+    planned(both, name, &wiring, 0, &plan);
+    let all: Vec<usize> = (0..cards).collect();
+    let last = columns as u32;
+    walked(both, name, &plan, [0, last], &all, [1, last, 8, 9 + last]);
+}
+
+/// Each link doubled: the 8-cube, the largest rack that is accepted, whose card c has the bits of c from the highest down; two by three;
+/// and a ring of five, whose level link comes third, or first where its twin does.
+fn twins(both: &mut Both) {
+    let cube = racks::cube(8).twice();
+    let mut plan = cube.bytes();
+    plan.splice(4..4, [8, 0]);
+    plan.extend((0..=255).map(u8::reverse_bits));
+    planned(both, "8-cube, each link doubled", &cube.bytes(), 0, &plan);
+
+    let two_by_three = racks::complete(2, 3).twice();
+    planned(both, "two by three, doubled", &two_by_three.bytes(), 11, &[]);
+
+    let mut ring = racks::ring(5).twice();
+    planned(both, "ring of five, doubled", &ring.bytes(), 10 + 2 * 256, &[]);
+    ring.links.rotate_left(7);
+    planned(both, "its level link's twin first", &ring.bytes(), 10, &[]);
 }

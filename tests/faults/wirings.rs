@@ -2,6 +2,7 @@
 
 use super::{either_way, put_number};
 use crate::racks::{Rack, Rng};
+use crate::second::{MOST_LINKS, MOST_PARALLEL};
 
 /// A wiring file, and the number it is answered with, where the fault alone fixes it.
 pub struct Faulty {
@@ -17,7 +18,7 @@ pub fn faulty_wiring(rng: &mut Rng, rack: &Rack) -> Faulty {
     match kind {
         6 => out_of_range(rng, &mut rack),
         7 => one_card(rng, &mut rack),
-        8 => repeat(rng, &mut rack),
+        8 => third_link(rng, &mut rack),
         9 => lonely_card(rng, &mut rack),
         10 => many_faults(rng, &mut rack),
         11 => stray_link(rng, &mut rack),
@@ -70,9 +71,7 @@ fn wrong_length(rng: &mut Rng, mut file: Vec<u8>) -> Vec<u8> {
 }
 
 fn insert(rng: &mut Rng, rack: &mut Rack, link: (usize, usize)) {
-    if rack.links.len() == 2_048 {
-        rack.links.pop();
-    }
+    rack.links.truncate(MOST_LINKS - 1);
     let at = rng.between(0, rack.links.len());
     rack.links.insert(at, link);
 }
@@ -91,11 +90,14 @@ fn one_card(rng: &mut Rng, rack: &mut Rack) {
     insert(rng, rack, (card, card));
 }
 
-fn repeat(rng: &mut Rng, rack: &mut Rack) {
-    if rack.links.len() == 2_048 {
-        rack.links.pop();
+/// One link more between two linked cards than may join them.
+fn third_link(rng: &mut Rng, rack: &mut Rack) {
+    rack.links.truncate(MOST_LINKS - MOST_PARALLEL);
+    if rack.links.is_empty() {
+        return;
     }
-    if let Some(&(p, q)) = rack.links.get(rng.below(rack.links.len().max(1))) {
+    let (p, q) = rng.pick(&rack.links);
+    while rack.joining(p, q) <= MOST_PARALLEL {
         let link = either_way(rng, p, q);
         insert(rng, rack, link);
     }
@@ -117,7 +119,7 @@ fn many_faults(rng: &mut Rng, rack: &mut Rack) {
             0 => out_of_range(rng, rack),
             1 => one_card(rng, rack),
             2 => lonely_card(rng, rack),
-            _ => repeat(rng, rack),
+            _ => third_link(rng, rack),
         }
     }
 }

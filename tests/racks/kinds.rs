@@ -1,7 +1,7 @@
 //! The kinds of racks that the comparison tries, at random sizes.
 
-use super::shapes::{cactus, complete, holed_cube, orders, words_below};
-use super::{chain, cube, grid, product, ring, star, tree, two_sides, Rack, Rng};
+use super::shapes::{cactus, holed_cube, orders, words_below};
+use super::{chain, complete, cube, grid, product, ring, star, tree, two_sides, Rack, Rng};
 
 /// Each pair of cards linked or not at random.
 fn any_rack(rng: &mut Rng) -> Rack {

@@ -3,10 +3,11 @@
 pub mod kinds;
 mod random;
 mod shapes;
+pub mod twins;
 
 use crate::second::planner::wiring_file;
 pub use random::Rng;
-pub use shapes::{chain, cube, grid, product, ring, star, tree, two_sides};
+pub use shapes::{chain, complete, cube, grid, product, ring, star, tree, two_sides};
 
 /// Cards and the two ends of each link.
 #[derive(Clone)]

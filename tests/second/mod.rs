@@ -18,7 +18,9 @@ pub const RECORD_BYTES: usize = 16;
 
 pub const MOST_CARDS: usize = 256;
 pub const CALLERS: u32 = 16;
-const MOST_LINKS: usize = 2_048;
+pub const MOST_LINKS: usize = 2_048;
+/// How many links may join the same two cards.
+pub const MOST_PARALLEL: usize = 2;
 const MOST_COLUMNS: usize = 255;
 
 /// One bit for each card of a column, or for each column of an address.

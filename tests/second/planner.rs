@@ -1,7 +1,7 @@
 //! Planning by breadth-first search: the whole columns of all links in a set, and then the test of all pairs.
 
 use super::{differing, ends, number, refuse, refuse_at, Bits, Refusal};
-use super::{MOST_CARDS, MOST_LINKS, PLAN_BYTES};
+use super::{MOST_CARDS, MOST_LINKS, MOST_PARALLEL, PLAN_BYTES};
 use std::collections::HashSet;
 
 const UNREACHED: u16 = u16::MAX;
@@ -54,7 +54,7 @@ pub fn read_wiring(file: &[u8]) -> Result<Wiring, Refusal> {
 }
 
 fn check_links(cards: usize, links: &[(usize, usize)]) -> Result<(), Refusal> {
-    let mut joined = vec![false; cards * cards];
+    let mut joined = vec![0; cards * cards];
     for (link, &(p, q)) in links.iter().enumerate() {
         if p >= cards || q >= cards {
             return refuse_at(6, link);
@@ -63,10 +63,10 @@ fn check_links(cards: usize, links: &[(usize, usize)]) -> Result<(), Refusal> {
             return refuse_at(7, link);
         }
         let pair = &mut joined[p.min(q) * cards + p.max(q)];
-        if *pair {
+        if *pair == MOST_PARALLEL {
             return refuse_at(8, link);
         }
-        *pair = true;
+        *pair += 1;
     }
     Ok(())
 }

@@ -43,12 +43,14 @@ rack|16 by 128|256|2049|     |  0|  1|2,049 links:
 rack|chain    |  1|   0|     |  0|  0|1 card:
 rack|ring     |256| 256|     |  3|131|ring 256:
 rack|hypercube|256|1024|     |  0|255|8-cube:
+rack|hypercube|256|2048|     |  0|255|8-cube doubled:
 rack|grid     |256| 480|     |240| 15|grid 16 x 16:
 rack|star     |256| 255|     |  7|  9|star 256:
 rack|tree     |256| 255|     |254|255|tree 256:
 rack|chain    |256| 255|mixed| 13|  0|chain 256 mixed:
 rack|ring     |256| 256|mixed| 13|141|ring 256 mixed:
 rack|hypercube|256|1024|mixed| 13|192|8-cube mixed:
+rack|hypercube|256|2048|mixed| 13|192|8-cube doubled mixed:
 rack|grid     |256| 480|mixed| 13|192|grid 16 x 16 mixed:
 rack|star     |256| 255|mixed| 13|200|star 256 mixed:
 rack|tree     |256| 255|mixed|100|200|tree 256 mixed:
@@ -81,6 +83,7 @@ fault|  4|257|  19|  0|  0|  1|  0|  0|  1|19 bytes and 257 cards:
 fault|256|256|1028|100|100|256|100|100|256|end 256 at link 100:
 fault|256|256|1028| 77|  5|  5| 77|  5|  5|card 5 to itself at link 77:
 fault|256|256|1028|200| 18| 17|200| 18| 17|link 17 again at link 200:
+fault|256|256|1028|200| 18| 17|201| 17| 18|link 17 again at links 200 and 201:
 fault|256|256|1028| 20|  9|  9| 30|300|  1|7 at link 20, 6 at link 30:
 fault|256|256|1028|  0|300|300|  8|  8|  8|card 300 to itself at link 0:
 lent|20|1023|65536|1,023 words:

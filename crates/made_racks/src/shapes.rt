@@ -30,7 +30,7 @@ fn extra_link(n: usize, i: usize) -> Ends
     Ends(i, i + 1)
 }
 
-// Bit `i / 128` of 8, at the card that has the bits of `i % 128` beside it.
+// Bit `i / 128` of 8, at the card that has the bits of `i % 128` beside it; links from 1,024 on are twins of those before.
 fn cube_link(i: usize) -> Ends
     requires { ⌜ i < 4096 ⌝ }
 {

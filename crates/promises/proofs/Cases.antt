@@ -37,8 +37,8 @@ use Rattle.listing_text.specs.Listing.{cards-word, links-word, columns-word, ca
 use Rattle.listing_text.specs.Listing.{number-line, address-text, card-line, size-lines, rack-lines, rack-text, names-link, place-text, refused-text, listing}
 use Rattle.promises.specs.Claims.{hex-digit, hex-bytes, hex, Claim, ends-so, counts-of, same-traffic, turns-of, chooses, claim-holds}
 use Rattle.promises.specs.Claims.{Case, case, rack, file-of, plan-of, case-holds, failing}
-use Rattle.promises.specs.Cases.{ring-of-four, ring-of-six, ring-plan, star-of-nine-plan, star-of-ten-plan, required-cases, size-cases, link-cases, rack-cases, plan-cases}
-use Rattle.promises.specs.Cases.{call-cases, crossing-cases, caller-cases, turn-cases, conference-cases, last-card-cases, opened-cases, cases}
+use Rattle.promises.specs.Cases.{ring-of-four, ring-of-six, ring-plan, star-of-nine-plan, star-of-ten-plan, doubled-plan}
+use Rattle.promises.specs.Cases.{required-cases, size-cases, link-cases, twin-cases, rack-cases, plan-cases, call-cases, crossing-cases, caller-cases, turn-cases, conference-cases, last-card-cases, opened-cases, cases}
 
 -- A CLAIM THAT FAILS has no proof, and the checker's message shows it, behind the name of its row. Both types are pairs: to check a
 -- pair the checker has to compute the list, and then says what it found in it.
@@ -50,8 +50,8 @@ None ((s, c) ∷ rest) = Fails s c × Unit {0}
 
 -- THE TEST
 none-fails : None (failing cases)
-unfolding cases required-cases size-cases link-cases rack-cases plan-cases call-cases crossing-cases caller-cases turn-cases conference-cases
-    last-card-cases opened-cases ring-of-four ring-of-six ring-plan star-of-nine-plan star-of-ten-plan rack file-of plan-of hex hex-bytes hex-digit ends-so
+unfolding cases required-cases size-cases link-cases twin-cases rack-cases plan-cases call-cases crossing-cases caller-cases turn-cases conference-cases
+    last-card-cases opened-cases ring-of-four ring-of-six ring-plan star-of-nine-plan star-of-ten-plan doubled-plan rack file-of plan-of hex hex-bytes hex-digit ends-so
     counts-of same-traffic turns-of chooses claim-holds failing
     number-bit bits-value joins linked neighbours touches other-end has-path hops unreached connected
     nearer-first side column same-column add-column add-columns columns column-count address hamming embeds

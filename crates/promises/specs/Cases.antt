@@ -5,7 +5,7 @@ use lib.ListN.{take, set, replicate}
 use Rattle.rack.specs.Wiring.{Link, link, wiring}
 use Rattle.planner.specs.PlanBytes.{plan-bytes}
 use Rattle.promises.specs.Claims.{hex, Case, rack, file-of, plan-of}
-use Rattle.promises.specs.Claims.{file-is, refused, sums, addresses, lists, plan-size, plan-is, read-as, walks, stuck, walk-answers}
+use Rattle.promises.specs.Claims.{file-is, refused, sums, addresses, lists, plan-size, plan-is, read-as, walks, stuck, steps-over, walk-answers}
 use Rattle.promises.specs.Claims.{gets-stuck, differ-in, differ-nowhere, adds-up, crosses, crosses-none, column-is}
 use Rattle.promises.specs.Claims.{counts-to, caller-answers, lent-answers, first-turn, second-turn, choice-answers}
 use Rattle.promises.specs.Claims.{confers, confers-nowhere, conference-answers}
@@ -32,13 +32,19 @@ star-of-ten-plan =
     hex "0a 00 09 00 09 00" ++ hex "00 00 00 00 00 00 00 00 00 00 00 00 00 00 00 00 00 00"
     ++ hex "01 00 02 00 03 00 04 00 05 00 06 00 07 00 08 00 09 00" ++ hex "00 00 01 00 02 00 04 00 08 00 10 00 20 00 40 00 80 00 00 01"
 
+-- P3's plan
+unfoldable pub doubled-plan : List ℕ
+doubled-plan = hex "02 00 02 00 01 00" ++ hex "00 00 01 00 01 00 00 00" ++ hex "00 01"
+
 -- P1 to P10, in their order
 unfoldable pub required-cases : List Case
 required-cases =
     rack "P1: one card" 1 []
     (refused 0 0 ∷ sums 0 ∷ addresses ("" ∷ []) ∷ plan-size 6 ∷ lists "cards 1\nlinks 0\ncolumns 0\ncard 0 -\n" ∷ [])
     ∷ rack "P2: two cards apart" 2 [] (refused 9 1 ∷ lists "refused 9 card 1\n" ∷ [])
-    ∷ rack "P3: a link doubled" 2 (link 0 1 ∷ link 1 0 ∷ []) (refused 8 1 ∷ lists "refused 8 link 1\n" ∷ [])
+    ∷ rack "P3: a link doubled" 2 (link 0 1 ∷ link 1 0 ∷ [])
+    (refused 0 0 ∷ sums 1 ∷ addresses ("0" ∷ "1" ∷ []) ∷ plan-is doubled-plan ∷ read-as 0
+    ∷ lists "cards 2\nlinks 2\ncolumns 1\ncard 0 0\ncard 1 1\n" ∷ [])
     ∷ rack "P4: three in line" 3 (link 0 1 ∷ link 1 2 ∷ []) (refused 0 0 ∷ sums 4 ∷ addresses ("00" ∷ "10" ∷ "11" ∷ []) ∷ [])
     ∷ rack "P5: the ring of four" 4 ring-of-four
     (refused 0 0 ∷ sums 8 ∷ addresses ("00" ∷ "10" ∷ "11" ∷ "01" ∷ [])
@@ -74,7 +80,32 @@ link-cases =
     ∷ rack "card 256 of 256" 256 (link 0 256 ∷ []) (file-is (hex "00 01 01 00 00 00 00 01") ∷ refused 6 0 ∷ [])
     ∷ rack "a first end, then a second: the lowest link" 2 (link 0 1 ∷ link 2 0 ∷ link 0 2 ∷ []) (refused 6 1 ∷ [])
     ∷ rack "7 of a link before 6 of the next" 3 (link 0 1 ∷ link 1 1 ∷ link 0 3 ∷ []) (refused 7 1 ∷ lists "refused 7 link 1\n" ∷ [])
-    ∷ rack "8 of a link before 7 and 6 of the next" 3 (link 0 1 ∷ link 0 1 ∷ link 1 1 ∷ link 0 3 ∷ []) (refused 8 1 ∷ [])
+    ∷ rack "8 of a link before 7 and 6 of the next" 3 (link 0 1 ∷ link 0 1 ∷ link 0 1 ∷ link 1 1 ∷ link 0 3 ∷ []) (refused 8 2 ∷ [])
+    ∷ []
+
+-- two links between the same cards: 8 is a third, they share a column, a step takes the lower, and a last card on them stays
+unfoldable pub twin-cases : List Case
+twin-cases =
+    rack "P3 with a third link: 8 with the third" 2 (link 0 1 ∷ link 1 0 ∷ link 0 1 ∷ []) (refused 8 2 ∷ lists "refused 8 link 2\n" ∷ [])
+    ∷ rack "a third between other twins, and a fourth: the lowest link" 3
+    (link 1 0 ∷ link 1 2 ∷ link 1 0 ∷ link 2 1 ∷ link 0 1 ∷ link 1 2 ∷ link 0 1 ∷ []) (refused 8 4 ∷ [])
+    ∷ rack "twins, then no card 7: 6 of a link before 8 of the next" 2 (link 0 1 ∷ link 1 0 ∷ link 0 7 ∷ link 0 1 ∷ []) (refused 6 2 ∷ [])
+    ∷ rack "twins, then card 1 to itself: 7 of a link before 8 of the next" 2 (link 0 1 ∷ link 1 0 ∷ link 1 1 ∷ link 0 1 ∷ []) (refused 7 2 ∷ [])
+    ∷ plan-of "P3: one column, the lower link both ways; its last card stays, and a card more has one link" doubled-plan
+    (column-is 0 0 ∷ column-is 1 0 ∷ steps-over 0 1 0 1 ∷ steps-over 1 0 0 0 ∷ taking-off-answers 16390 17
+    ∷ adds 1 (hex "03 00 03 00 02 00" ++ hex "00 00 01 00 01 00 01 00 00 00 02 00" ++ hex "00 01 03") 4 ∷ [])
+    ∷ rack "P5 with each link doubled behind it, the other way round: its columns and its steps" 4
+    (ring-of-four ++ (link 1 0 ∷ link 2 1 ∷ link 3 2 ∷ link 0 3 ∷ []))
+    (refused 0 0 ∷ sums 8 ∷ addresses ("00" ∷ "10" ∷ "11" ∷ "01" ∷ []) ∷ read-as 0 ∷ column-is 4 0 ∷ column-is 5 1 ∷ column-is 7 1
+    ∷ steps-over 0 2 0 1 ∷ steps-over 0 3 3 3 ∷ walks 0 2 2 (0 ∷ 1 ∷ 2 ∷ []) ∷ [])
+    ∷ rack "P5 behind a twin of its last link: that column comes first" 4 (link 0 3 ∷ ring-of-four)
+    (refused 0 0 ∷ addresses ("00" ∷ "01" ∷ "11" ∷ "10" ∷ []) ∷ column-is 4 0 ∷ steps-over 0 2 0 3 ∷ steps-over 3 0 0 0 ∷ [])
+    ∷ rack "P7 behind a twin of its level link: 10 with the lower" 3 (link 2 1 ∷ link 0 1 ∷ link 1 2 ∷ link 2 0 ∷ []) (refused 10 0 ∷ [])
+    ∷ rack "P8 with each link doubled" 5
+    (link 0 2 ∷ link 0 3 ∷ link 0 4 ∷ link 1 2 ∷ link 1 3 ∷ link 1 4 ∷ link 2 0 ∷ link 0 3 ∷ link 4 0 ∷ link 1 2 ∷ link 3 1 ∷ link 1 4 ∷ [])
+    (refused 11 0 ∷ [])
+    ∷ rack "a last card on a doubled cable, which is not last: 17" 3 (link 2 1 ∷ link 0 1 ∷ link 1 2 ∷ []) (taking-off-answers 16390 17 ∷ [])
+    ∷ rack "a last card behind a doubled cable is taken off" 3 (link 0 1 ∷ link 1 0 ∷ link 1 2 ∷ []) (takes-off doubled-plan 1 ∷ [])
     ∷ []
 
 -- 9 to 11, each with the lowest card or link
@@ -240,5 +271,5 @@ opened-cases =
 
 unfoldable pub cases : List Case
 cases =
-    required-cases ++ size-cases ++ link-cases ++ rack-cases ++ plan-cases ++ call-cases ++ crossing-cases
+    required-cases ++ size-cases ++ link-cases ++ twin-cases ++ rack-cases ++ plan-cases ++ call-cases ++ crossing-cases
     ++ caller-cases ++ turn-cases ++ conference-cases ++ last-card-cases ++ opened-cases

@@ -66,6 +66,8 @@ pub data Claim : Type 0 where
   -- on the plan, the walk from a to b arrives after so many hops with these cards met; the step from a to b is stuck
   walks : (a b hops : ℕ) → (met : List ℕ) → Claim
   stuck : (a b : ℕ) → Claim
+  -- the step from a to b is over this link to this card
+  steps-over : (a b link far : ℕ) → Claim
   -- the walk gets stuck after so many hops with these cards met
   gets-stuck : (a b hops : ℕ) → (met : List ℕ) → Claim
   -- with these counts before it, the walk from a to b gives this number
@@ -140,6 +142,7 @@ claim-holds bs ps (plan-is xs) = same eqb ps xs
 claim-holds bs ps (read-as n) = eqb (plan-refusal ps) n
 claim-holds bs ps (walks a b hops met) = ends-so 1 hops met (walk ps a b)
 claim-holds bs ps (stuck a b) = eqb (step ps a b .outcome) 0
+claim-holds bs ps (steps-over a b i c) = let s = step ps a b in eqb (s .outcome) 2 && eqb (s .link) i && eqb (s .far) c
 claim-holds bs ps (gets-stuck a b hops met) = ends-so 0 hops met (walk ps a b)
 claim-holds bs ps (walk-answers a b f h n) = eqb (walk-refusal ps a b (record { frames = f; hops = h }) lent-met) n
 claim-holds bs ps (differ-in a b n j) = eqb (plan-hamming ps a b) n && ltb j (plan-columns ps) && eqb (plan-differing ps a b) j

@@ -27,7 +27,7 @@ lowest-fault n f =
 
 -- how many links may join the same two cards
 abbrev pub most-parallel : ℕ
-most-parallel = 1
+most-parallel = 2
 
 -- 6, 7, 8: an end is no card, both ends are one card, too many earlier links join the same two cards
 unfoldable pub link-fault : Wiring → (i : ℕ) → ℕ

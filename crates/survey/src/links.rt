@@ -21,7 +21,7 @@ pub struct Refused {
 }
 
 // How many links may join the same two cards.
-const MOST_PARALLEL: u8 = 1;
+const MOST_PARALLEL: u8 = 2;
 
 // 2 to 5, or 0.
 pub fn sizes_fault(file: &[u8]) -> u32
