@@ -1,5 +1,5 @@
--- All promises, each proved: what a reader looks for first. Here those of racks, of planning, reading and forwarding, of the C calls and of the
--- listing; those of the other calls on a plan stand in PlanCalls.antt and OpenedPlans.antt. Assumes nothing.
+-- All promises, each proved: what a reader looks for first. Here those of racks, of planning, reading and forwarding, of twin cables, of the C calls
+-- and of the listing; those of the other calls on a plan stand in PlanCalls.antt and OpenedPlans.antt. Assumes nothing.
 use Rattle.rack.specs.Promises.{Hops-fewest, Connected-paths, No-ties, Card-zero-zeros, Addresses-embed, No-addresses}
 use Rattle.rack.specs.Promises.{Embedding-unique, Choices-as-rows, Columns-once, Few-columns, Sizes-in-range, Links-join, Odd-loop, File-as-wiring}
 use Rattle.rack.proofs.Promises as rack
@@ -12,6 +12,9 @@ use Rattle.reader.specs.Promises.{Address-whole, Refused-address-empty, No-such
 use Rattle.reader.proofs.Promises as reader
 use Rattle.forwarder.specs.Promises.{Step-first, Step-local, Step-call-local, Walk-ends, Frame-arrives, Walk-arrives, Walk-full, Stuck-uncounted}
 use Rattle.forwarder.proofs.Promises as forwarder
+use Rattle.twins.specs.Promises.{Third-refused, Two-may-join, Twins-alike, Twins-keep-hops, Twins-keep-number, Twins-keep-columns}
+use Rattle.twins.specs.Promises.{Step-lowest, Step-answer-lowest, Walk-lowest, Doubled-stays, Added-single}
+use Rattle.twins.proofs.Promises as twins
 use Rattle.text.specs.Promises.{Decimal-value, Decimal-first, Decimal-digits}
 use Rattle.text.proofs.Promises as text
 use Rattle.listing_text.specs.Promises.{Listing-fits}
@@ -163,6 +166,44 @@ walk-full = forwarder.walk-full
 -- a stuck walk is not counted, and never 15
 pub stuck-uncounted : Stuck-uncounted
 stuck-uncounted = forwarder.stuck-uncounted
+
+-- 8 is a third link between two cards, and carries the third; so at most two join them
+pub third-refused : Third-refused
+third-refused = twins.third-refused
+
+pub two-may-join : Two-may-join
+two-may-join = twins.two-may-join
+
+-- twins share a column
+pub twins-alike : Twins-alike
+twins-alike = twins.twins-alike
+
+-- with twins and without, a rack has the same hops, the same number from 9 to 11, and the same columns where it is accepted
+pub twins-keep-hops : Twins-keep-hops
+twins-keep-hops = twins.twins-keep-hops
+
+pub twins-keep-number : Twins-keep-number
+twins-keep-number = twins.twins-keep-number
+
+pub twins-keep-columns : Twins-keep-columns
+twins-keep-columns = twins.twins-keep-columns
+
+-- a step takes the lower of two, in its definition and in the call's answer, and so does each step of a walk
+pub step-lowest : Step-lowest
+step-lowest = twins.step-lowest
+
+pub step-answer-lowest : Step-answer-lowest
+step-answer-lowest = twins.step-answer-lowest
+
+pub walk-lowest : Walk-lowest
+walk-lowest = twins.walk-lowest
+
+-- a last card on two links stays, and a card added is on one
+pub doubled-stays : Doubled-stays
+doubled-stays = twins.doubled-stays
+
+pub added-single : Added-single
+added-single = twins.added-single
 
 -- the C calls: the writer finds the addresses or there are none, what the reader reads is measured, every frame arrives or is 15
 pub c-writing-finds : C-writing-finds

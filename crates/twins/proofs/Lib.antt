@@ -1,0 +1,6 @@
+pub mod Counts
+pub mod Columns
+pub mod SamePairs
+pub mod Steps
+pub mod LastCard
+pub mod Promises
