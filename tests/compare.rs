@@ -1,5 +1,5 @@
 //! Compares the C calls with the second implementation: `compare [SEED] [ROUNDS]`.
-//! A round plans a rack, reads and walks its plan, and tries faulty files and wrong buffers too.
+//! A round plans a rack, every other time with links doubled, reads and walks its plan, and tries faulty files and wrong buffers too.
 
 mod both;
 mod calls;
@@ -11,6 +11,7 @@ mod properties;
 mod racks;
 #[allow(dead_code)]
 mod second;
+mod twins;
 
 use both::{Answer, Both, Call, Lengths, NUMBERS};
 use drawn::{some_card, some_count, some_length, MOST};
@@ -18,6 +19,7 @@ use faults::{plans, wirings};
 use racks::kinds::SHAPES;
 use racks::{Rack, Rng};
 use second::CALLERS;
+use twins::Twins;
 
 const SEED: u64 = 20_260_115;
 const ROUNDS: u64 = 4_000;
@@ -52,13 +54,15 @@ fn main() {
 
     let mut both = Both::new(seed);
     let mut rng = Rng::new(seed);
+    let mut twins = Twins::default();
     for round in 0..rounds {
         both.round = round;
-        run_round(&mut both, &mut rng);
+        run_round(&mut both, &mut rng, &mut twins);
     }
     report(&both);
+    twins.report();
     if given_rounds.is_none() {
-        check_reach(&both);
+        check_reach(&both, &twins);
     }
 }
 
@@ -82,8 +86,8 @@ fn report(both: &Both) {
     }
 }
 
-/// The rounds must have met every number that a call can be answered with and no other, and be many.
-fn check_reach(both: &Both) {
+/// The rounds must have met every number that a call can be answered with and no other, doubled racks of each kind, and be many.
+fn check_reach(both: &Both, twins: &Twins) {
     for ((call, numbers), seen) in ANSWERED.iter().zip(&both.seen) {
         for number in 0..NUMBERS {
             if numbers.contains(&number) != (seen[number] > 0) {
@@ -94,6 +98,9 @@ fn check_reach(both: &Both) {
             }
         }
     }
+    if !twins.complete() {
+        stop("FAILED: never were links doubled with columns in one of their orders, or in a rack refused with 9, 10 or 11");
+    }
     if both.calls() < FEWEST_CALLS {
         stop(&format!(
             "FAILED: fewer than {FEWEST_CALLS} calls were made"
@@ -101,14 +108,18 @@ fn check_reach(both: &Both) {
     }
 }
 
-fn run_round(both: &mut Both, rng: &mut Rng) {
-    let shape = &SHAPES[both.round as usize % SHAPES.len()];
-    let rack = (shape.make)(rng);
-    let rack = if rng.below(8) == 0 {
-        rack
-    } else {
-        rack.shuffled(rng)
-    };
+fn run_round(both: &mut Both, rng: &mut Rng, twins: &mut Twins) {
+    let round = both.round as usize;
+    let shape = &SHAPES[round % SHAPES.len()];
+    let mut rack = (shape.make)(rng);
+    if rng.below(8) > 0 {
+        rack = rack.shuffled(rng);
+    }
+    if round / SHAPES.len() % 2 == 1 {
+        let doubled = rack.doubled(rng);
+        twins.compare(both, &rack, &doubled);
+        rack = doubled.rack;
+    }
     let plan = plan_rack(both, &rack, shape.number);
     if let Some(plan) = &plan {
         follow_plan(both, rng, plan, 24);

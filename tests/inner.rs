@@ -1,6 +1,6 @@
 //! Compares the calls of libtest_calls.a with the second implementation: `inner [SEED] [ROUNDS]`.
-//! A round plans and lists a rack and faulty files, makes calls on its plan, on damaged ones and on one made up, chooses between
-//! frames, steps over the rack's links, lets its cards confer, sums its hops up, and hangs a card on them.
+//! A round plans and lists a rack, every other time with links doubled, and faulty files, makes calls on its plan, on damaged ones and on
+//! one made up, chooses between frames, steps over the rack's links, lets its cards confer, sums its hops up, and hangs a card on them.
 
 #[allow(dead_code)]
 mod callers;
@@ -27,6 +27,7 @@ mod inner_named_walks;
 mod inner_reading;
 mod inner_second;
 mod inner_totals;
+mod inner_twins;
 #[allow(dead_code)]
 mod last_card;
 #[allow(dead_code)]
@@ -42,6 +43,7 @@ use inner_both::{Both, Call, Name, NAMES};
 use inner_changes::{change_damaged, change_plan};
 use inner_drawn::{some_caller, some_frame, some_lengths, some_sizes, some_total, some_traffic};
 use inner_totals::sum_up;
+use inner_twins::{follow_links, plan_doubled};
 use racks::kinds::SHAPES;
 use racks::Rng;
 use second::columns::column_numbers;
@@ -73,6 +75,7 @@ fn main() {
     inner_named_totals::check(&mut cases);
     inner_named_walks::check(&mut cases);
     inner_named_turns::check(&mut cases);
+    inner_twins::check(&mut cases);
     println!("named cases: {} calls agree", cases.calls());
 
     let mut both = Both::new(seed);
@@ -127,8 +130,14 @@ fn check_reach(both: &Both) {
 }
 
 fn run_round(both: &mut Both, rng: &mut Rng) {
-    let shape = &SHAPES[both.round as usize % SHAPES.len()];
-    let rack = (shape.make)(rng).shuffled(rng);
+    let round = both.round as usize;
+    let shape = &SHAPES[round % SHAPES.len()];
+    let mut rack = (shape.make)(rng).shuffled(rng);
+    if round / SHAPES.len() % 2 == 1 {
+        let doubled = rack.doubled(rng);
+        plan_doubled(both, &rack, &doubled);
+        rack = doubled.rack;
+    }
     let wiring = rack.bytes();
     plan_file(both, rng, &wiring);
     for _ in 0..3 {
@@ -139,6 +148,7 @@ fn run_round(both: &mut Both, rng: &mut Rng) {
         let plan = planned.bytes();
         follow_plan(both, rng, &plan, 60);
         cross_links(both, rng, &planned.wiring, &plan);
+        follow_links(both, rng, &rack, &plan);
         confer(both, rng, &plan);
         let total = sum_up(both, rng, &plan);
         change_plan(both, rng, &plan, total);

@@ -65,6 +65,8 @@ pub struct Counted {
     pub sums: Sums,
     callers: Callers,
     choices: Choices,
+    /// How often a step of a walk went over a link that has a twin.
+    pub twins: u64,
 }
 
 impl Counted {
@@ -171,6 +173,7 @@ impl Counted {
             "choices of the first, level {}, with fewer turns {}, of one caller {}; of the second {}",
             choices.level, choices.first, choices.one_caller, choices.second
         );
+        println!("steps of walks over twins {}", self.twins);
     }
 
     /// What was never met, where there is such a thing.
@@ -203,6 +206,7 @@ impl Counted {
                 &[choices.level, choices.first, choices.second, choices.one_caller],
                 "two waiting frames were never chosen from in one of the ways",
             ),
+            (&[self.twins], "never did a walk go over a link that has a twin"),
         ];
         let missing = all.iter().find(|(counts, _)| counts.contains(&0));
         missing.map(|&(_, message)| message)
