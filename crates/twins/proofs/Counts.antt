@@ -11,8 +11,8 @@ use lib.Seq.{take-suc, take-length}
 use borrow.Author.Tests.{eqb-true, eqb-false, ne-eqb, lt-ltb, le-ltb, leb-false, lt-leb, le-leb, not-false}
 use Rattle.rack.specs.Lists.{one, count, lowest}
 use Rattle.rack.specs.Wiring.{Link, Wiring, link, link-count, link-at, joins}
-use Rattle.rack.specs.Refusals.{Refusal, refusal, lowest-fault, most-parallel, link-fault, links-refusal, well-formed}
-use Rattle.rack.proofs.Logic.{by-bool, by-lt, nor-left, nor-right, and-right}
+use Rattle.rack.specs.Refusals.{Refusal, refusal, lowest-fault, most-parallel, link-fault, links-refusal}
+use Rattle.rack.proofs.Logic.{by-bool, by-lt, nor-left, nor-right}
 use Rattle.rack.proofs.Lists.{count-ext, count-snoc}
 use Rattle.rack.proofs.Tables.{lowest-first}
 use Rattle.rack.proofs.Paths.{Ends, joins-ends, ends-join}

@@ -1,7 +1,7 @@
 -- Racks with the same pairs of cards linked: the same hops, the same number from 9 to 11, the same columns where they are accepted. Assumes nothing.
 use mathlib.Core.Path.{_≡_, refl, sym, ap, _∙_, subst}
 use mathlib.Core.Bool.{Bool, true, false}
-use mathlib.Core.Logic.{inl, inr, ⊎-elim}
+use mathlib.Core.Logic.{_⊎_, inl, inr}
 use Prim.Native.Nat.{ℕ, zero, suc}
 use native.Mathlib.Omega.{arith}
 use lib.Dec.{eqb}
@@ -11,7 +11,7 @@ use Rattle.rack.specs.Wiring.{Link, Wiring, link, link-at}
 use Rattle.rack.specs.Hops.{has-path, hops, unreached, connected}
 use Rattle.rack.specs.Columns.{column-count, address, Embedding}
 use Rattle.rack.specs.Embeddings.{reduced-columns, times}
-use Rattle.rack.specs.Refusals.{well-formed, rack-refusal}
+use Rattle.rack.specs.Refusals.{Refusal, well-formed, rack-refusal}
 use Rattle.rack.specs.Promises.{Embedding-unique}
 use Rattle.rack.proofs.Logic.{by-bool}
 use Rattle.rack.proofs.Lists.{in-getD, getD-in}
@@ -76,40 +76,43 @@ module _ (v w : Wiring) (s : Same-pairs v w) where
       either j k e (inr f) = rw (f .0, f .1) (sym e)
 
   module _ (formed : well-formed w ≡ true) (whole : connected v ≡ true) where
-    whole-too : connected w ≡ true
-    whole-too = sym (connected-same v w s) ∙ whole
+    connected-carried : connected w ≡ true
+    connected-carried = sym (connected-same v w s) ∙ whole
 
     accepted-carried : rack-refusal v .number ≡ 0 → rack-refusal w .number ≡ 0
     accepted-carried z =
-        rw (embedding-accepted w (well-formed-rack w formed whole-too) (column-count v) (address v)
+        rw (embedding-accepted w (well-formed-rack w formed connected-carried) (column-count v) (address v)
         (embedding-carried (column-count v) (address v) (accepted-embedding v z .1))) refl
 
-    level-too : rack-refusal v .number ≡ 10 → rack-refusal w .number ≡ 10
-    level-too t = level-ten w whole-too (level-carried (ten-level v whole t))
+    odd-carried : rack-refusal v .number ≡ 10 → rack-refusal w .number ≡ 10
+    odd-carried t = level-ten w connected-carried (level-carried (ten-level v whole t))
 
-pub twins-keep-number : Twins-keep-number
-unfolding Twins-keep-number
-twins-keep-number v w s fv fw = by-bool (connected v) connected-both apart
+-- a connected rack's number is 0, 10 or 11; the first two are carried over both ways, and so the third
+same-number : (v w : Wiring) → Same-pairs v w → well-formed v ≡ true → well-formed w ≡ true → connected v ≡ true → rack-refusal v .number ≡ rack-refusal w .number
+same-number v w s fv fw c = go (connected-number v c) (connected-number w d)
   where
     back : Same-pairs w v
     back = pairs-back v w s
 
-    apart : connected v ≡ false → rack-refusal v .number ≡ rack-refusal w .number
-    apart f = rw (unconnected-refusal v f, unconnected-refusal w (sym (connected-same v w s) ∙ f)) refl
+    d : connected w ≡ true
+    d = connected-carried v w s fw c
 
-    connected-both : connected v ≡ true → rack-refusal v .number ≡ rack-refusal w .number
-    connected-both c =
-        let d = whole-too v w s fw c in
-        ⊎-elim
-        (λ z. z ∙ sym (accepted-carried v w s fw c z))
-        (λ k. ⊎-elim
-        (λ t. t ∙ sym (level-too v w s fw c t))
-        (λ e. ⊎-elim
-        (λ z. accepted-carried w v back fv d z ∙ sym z)
-        (λ j. ⊎-elim (λ t. level-too w v back fv d t ∙ sym t) (λ f. e ∙ sym f) j)
-        (connected-number w d))
-        k)
-        (connected-number v c)
+    Number : Wiring → ℕ → Type 0
+    Number u x = rack-refusal u .number ≡ x
+
+    go : Number v 0 ⊎ (Number v 10 ⊎ Number v 11) → Number w 0 ⊎ (Number w 10 ⊎ Number w 11) → rack-refusal v .number ≡ rack-refusal w .number
+    go (inl z) k = z ∙ sym (accepted-carried v w s fw c z)
+    go (inr (inl t)) k = t ∙ sym (odd-carried v w s fw c t)
+    go (inr (inr e)) (inl z) = accepted-carried w v back fv d z ∙ sym z
+    go (inr (inr e)) (inr (inl t)) = odd-carried w v back fv d t ∙ sym t
+    go (inr (inr e)) (inr (inr f)) = e ∙ sym f
+
+pub twins-keep-number : Twins-keep-number
+unfolding Twins-keep-number
+twins-keep-number v w s fv fw = (by-bool (connected v) (same-number v w s fv fw) (λ f. ap (λ (r : Refusal). r .number) (apart f)), apart)
+  where
+    apart : connected v ≡ false → rack-refusal v ≡ rack-refusal w
+    apart f = rw (unconnected-refusal v f, unconnected-refusal w (sym (connected-same v w s) ∙ f), unreached-same v w s) refl
 
 pub twins-keep-columns : Twins-keep-columns
 unfolding Twins-keep-columns Embedding-unique
@@ -118,7 +121,7 @@ twins-keep-columns v w s fv fw z =
     let k = column-count v in
     let r = address v in
     let ours = embedding-unique v k r fv (a .0) (a .1) in
-    let theirs = embedding-unique w k r fw (whole-too v w s fw (a .0)) (embedding-carried v w s k r (a .1)) in (
+    let theirs = embedding-unique w k r fw (connected-carried v w s fw (a .0)) (embedding-carried v w s k r (a .1)) in (
       sym (ours .0) ∙ ap (λ (n : ℕ). length (reduced-columns n k r)) (s .0) ∙ theirs .0,
       λ c. sym (ours .1 c) ∙ ap (λ (n : ℕ). times c (reduced-columns n k r)) (s .0) ∙ theirs .1 c,
     )

@@ -14,7 +14,7 @@ use Rattle.rack.proofs.Paths.{Ends, joins-ends, ends-join, touches-ends, ends-t
 use Rattle.forwarder.specs.Forwarding.{leads-nearer, step, walk}
 use Rattle.forwarder.specs.Calls.{step-refusal}
 use Rattle.forwarder.specs.Promises.{Steps-along, Walk-ends}
-use Rattle.forwarder.proofs.Stepping.{Nearer, facts-nearer, next-link, step-here, step-over, step-stuck, step-two}
+use Rattle.forwarder.proofs.Stepping.{Nearer, facts-nearer, next-link, step-here, step-over, step-stuck, Over, step-two}
 use Rattle.forwarder.proofs.Promises.{walk-ends}
 use Rattle.twins.specs.Promises.{Step-lowest, Step-answer-lowest, Lowest-along, Walk-lowest}
 
@@ -44,20 +44,37 @@ module _ (ps : List ℕ) (a b : ℕ) where
       (λ n. by-lt (next-link ps a b) (link-count (plan-wiring ps)) (λ l. rw (step-over ps a b n l) refl)
       (λ l. let k : step ps a b .outcome ≡ 0 = rw (step-stuck ps a b n l) refl in absurd (omega arith)))
 
+  module _ (e : step ps a b .outcome ≡ 2) where
+    abbrev i : ℕ
+    i = step ps a b .link
+
+    abbrev far : ℕ
+    far = step ps a b .far
+
+    abbrev at : (j : ℕ) → Link
+    at j = link-at (plan-wiring ps) j
+
+    over : Over ps a b
+    over = step-two ps a b e
+
+    link-joins : joins a far (at i) ≡ true
+    link-joins = rw (over .far) (ends-join a (other-end a (at i)) (at i) (touches-ends a (at i) (over .nearer .of-a)))
+
+    twin-leads : (j : ℕ) → joins a far (at j) ≡ true → leads-nearer ps a b (at j) ≡ true
+    twin-leads j t = facts-nearer ps a b (at j) (twin-nearer (at i) (at j) (over .nearer) (rw (over .far) at (joins-ends a far (at j) t)))
+
+    lower-apart : (j : ℕ) → j < i → joins a far (at j) ≡ false
+    lower-apart j h =
+        not-true-false (joins a far (at j)) (λ t. true-not-false (leads-nearer ps a b (at j)) (twin-leads j t)
+        (lowest-first (link-count (plan-wiring ps)) (λ j. leads-nearer ps a b (at j)) j (omega (arith, step-next e))))
+
 pub step-lowest : Step-lowest
 unfolding Step-lowest
 step-lowest ps a b e =
-    let o = step-two ps a b e in
-    let i = step ps a b .link in
-    let m = link-count (plan-wiring ps) in
-    let l : ℕ → Link = λ j. link-at (plan-wiring ps) j in
-    let before : (j : ℕ) → j < i → joins a (step ps a b .far) (l j) ≡ false = λ j h.
-    not-true-false (joins a (step ps a b .far) (l j))
-    (λ t. true-not-false (leads-nearer ps a b (l j))
-    (facts-nearer ps a b (l j) (twin-nearer ps a b (l i) (l j) (o .nearer) (rw (o .far) at (joins-ends a (step ps a b .far) (l j) t))))
-    (lowest-first m (λ j. leads-nearer ps a b (l j)) j (omega (arith, step-next ps a b e)))) in
-    let here : joins a (step ps a b .far) (l i) ≡ true = rw (o .far) (ends-join a (other-end a (l i)) (l i) (touches-ends a (l i) (o .nearer .of-a))) in
-    (o .inside, lowest-is m (λ j. joins a (step ps a b .far) (l j)) i (omega (arith, o .inside)) before (λ h. here))
+    let inside = over ps a b e .inside in (
+      inside,
+      lowest-is (link-count (plan-wiring ps)) _ (step ps a b .link) (omega arith) (lower-apart ps a b e) (λ h. link-joins ps a b e),
+    )
 
 pub step-answer-lowest : Step-answer-lowest
 unfolding Step-answer-lowest Step-lowest

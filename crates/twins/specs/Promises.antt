@@ -56,10 +56,11 @@ Same-pairs v w = (v .cards ≡ w .cards) × ((a b : ℕ) → linked v a b ≡ li
 unfoldable pub Twins-keep-hops : Type 0
 Twins-keep-hops = (v w : Wiring) → Same-pairs v w → (a b : ℕ) → hops v a b ≡ hops w a b
 
--- nor what is said of a rack: it is accepted, or refused with 9, 10 or 11, as the rack without them is
+-- nor what is said of a rack: it is accepted, or refused with 9, 10 or 11, as the rack without them is, and with 9 it is the same card
 unfoldable pub Twins-keep-number : Type 0
 Twins-keep-number =
-    (v w : Wiring) → Same-pairs v w → well-formed v ≡ true → well-formed w ≡ true → rack-refusal v .number ≡ rack-refusal w .number
+    (v w : Wiring) → Same-pairs v w → well-formed v ≡ true → well-formed w ≡ true →
+    (rack-refusal v .number ≡ rack-refusal w .number) × (connected v ≡ false → rack-refusal v ≡ rack-refusal w)
 
 -- nor the columns of an accepted one, but for their order, which is that of their lowest links
 unfoldable pub Twins-keep-columns : Type 0
