@@ -42,7 +42,7 @@ pub fn check(name: &str, (number, answer): Changed, output: &Output, new: &Summe
     assert_eq!(output[..length], new.file, "{name}");
 }
 
-/// As many links as a rack of 255 cards can have.
+/// As many linked pairs as a rack of 255 cards can have, and with twins as many links.
 fn cube_less_a_card() -> Rack {
     let mut rack = racks::cube(8);
     rack.cards = CARDS;
@@ -61,6 +61,7 @@ pub fn racks_of_255() -> Vec<Growing> {
         ("tail of 127 on a 7-cube", racks::cube(7).with_tail(127)),
         ("grid of 15 x 17", racks::grid(15, 17)),
         ("8-cube less a card", cube_less_a_card()),
+        ("8-cube less a card, doubled", cube_less_a_card().twice()),
     ];
     all.map(|(name, rack)| growing(name, rack.shuffled(rng), rng.below(CARDS)))
         .into()

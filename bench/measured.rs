@@ -35,11 +35,16 @@ pub struct Conference {
 }
 
 /// The slowest wirings that a search found.
-const SLOWEST: [(&str, u32, &[u8]); 3] = [
+const SLOWEST: [(&str, u32, &[u8]); 4] = [
     (
         "slowest found, accepted",
         0,
         include_bytes!("wirings/slowest-accepted.wiring"),
+    ),
+    (
+        "slowest found, accepted, with twins",
+        0,
+        include_bytes!("wirings/slowest-accepted-twins.wiring"),
     ),
     (
         "slowest found, refused with 10",
@@ -58,7 +63,7 @@ fn tail_last(rng: &mut Rng) -> Rack {
     racks::cube(7).with_tail(128).renumbered(rng)
 }
 
-/// Cards are numbered and links ordered at random, except where a name says more.
+/// Cards are numbered and links ordered at random, except where a name says more. Of a doubled rack each link has a twin.
 pub fn racks_of_256() -> Vec<Measured> {
     let rng = &mut Rng::new(SEED);
     let tree = racks::tree(rng, 256);
@@ -78,7 +83,17 @@ pub fn racks_of_256() -> Vec<Measured> {
     .map(|(name, number, rack)| (name, number, rack.shuffled(rng)));
     let slowest = SLOWEST.map(|(name, number, wiring)| (name, number, Rack::of(wiring)));
     let rest = [("tail of 128 on a 7-cube, links last", 0, tail_last(rng))];
-    let all = shuffled.into_iter().chain(rest).chain(slowest);
+    let doubled = [
+        ("chain, doubled", racks::chain(256)),
+        ("star, doubled", racks::star(256)),
+        ("8-cube, doubled", racks::cube(8)),
+    ]
+    .map(|(name, rack)| (name, 0, rack.twice().shuffled(rng)));
+    let all = shuffled
+        .into_iter()
+        .chain(rest)
+        .chain(doubled)
+        .chain(slowest);
     all.map(|(name, number, rack)| Measured { name, rack, number })
         .collect()
 }
