@@ -46,7 +46,7 @@ extern "C" {
 #endif
 
 /* Raised with each section of docs/LANDINGS.md. */
-#define JOLVENTE_VERSION "0.11"
+#define JOLVENTE_VERSION "0.12"
 
 /* The longest wiring file, the longest plan file, and lent lengths. */
 enum {
