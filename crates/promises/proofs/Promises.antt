@@ -13,7 +13,7 @@ use Rattle.reader.proofs.Promises as reader
 use Rattle.forwarder.specs.Promises.{Step-first, Step-local, Step-call-local, Walk-ends, Frame-arrives, Walk-arrives, Walk-full, Stuck-uncounted}
 use Rattle.forwarder.proofs.Promises as forwarder
 use Rattle.twins.specs.Promises.{Third-refused, Two-may-join, Twins-alike, Twins-keep-hops, Twins-keep-number, Twins-keep-columns}
-use Rattle.twins.specs.Promises.{Step-lowest, Step-answer-lowest, Walk-lowest, Doubled-stays, Added-single}
+use Rattle.twins.specs.Promises.{Twins-behind, Step-lowest, Step-answer-lowest, Walk-lowest, Doubled-stays, Added-single}
 use Rattle.twins.proofs.Promises as twins
 use Rattle.text.specs.Promises.{Decimal-value, Decimal-first, Decimal-digits}
 use Rattle.text.proofs.Promises as text
@@ -187,6 +187,10 @@ twins-keep-number = twins.twins-keep-number
 
 pub twins-keep-columns : Twins-keep-columns
 twins-keep-columns = twins.twins-keep-columns
+
+-- and twins behind all other links leave every address as it was
+pub twins-behind : Twins-behind
+twins-behind = twins.twins-behind
 
 -- a step takes the lower of two, in its definition and in the call's answer, and so does each step of a walk
 pub step-lowest : Step-lowest

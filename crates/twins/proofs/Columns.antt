@@ -51,7 +51,7 @@ module _ (w : Wiring) (rack : Rack w) (even : parity-refusal w .number ≡ 0) (l
   unfolding column side nearer-first
   column-same e f = rw (e, f) refl
 
-  column-twin : Ends (l .first) (l .second) k → column w l ≡ column w k
+  pub column-twin : Ends (l .first) (l .second) k → column w l ≡ column w k
   column-twin (inl e) = column-same (e .0) (e .1)
   column-twin (inr e) = column-reversed (e .0) (e .1)
 

@@ -1,9 +1,10 @@
 -- The promises of specs/Promises.antt, proved. Assumes nothing.
 use Rattle.twins.specs.Promises.{Third-refused, Two-may-join, Twins-alike, Twins-keep-hops, Twins-keep-number, Twins-keep-columns}
-use Rattle.twins.specs.Promises.{Step-lowest, Step-answer-lowest, Walk-lowest, Doubled-stays, Added-single}
+use Rattle.twins.specs.Promises.{Twins-behind, Step-lowest, Step-answer-lowest, Walk-lowest, Doubled-stays, Added-single}
 use Rattle.twins.proofs.Counts
 use Rattle.twins.proofs.Columns
 use Rattle.twins.proofs.SamePairs
+use Rattle.twins.proofs.Behind
 use Rattle.twins.proofs.Steps
 use Rattle.twins.proofs.LastCard
 
@@ -24,6 +25,9 @@ twins-keep-number = SamePairs.twins-keep-number
 
 pub twins-keep-columns : Twins-keep-columns
 twins-keep-columns = SamePairs.twins-keep-columns
+
+pub twins-behind : Twins-behind
+twins-behind = Behind.twins-behind
 
 pub step-lowest : Step-lowest
 step-lowest = Steps.step-lowest

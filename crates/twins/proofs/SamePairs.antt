@@ -22,7 +22,7 @@ use Rattle.rack.proofs.Acceptance.{Level-link, unconnected-refusal, accepted-em
 use Rattle.rack.proofs.Promises.{embedding-unique}
 use Rattle.twins.specs.Promises.{Same-pairs, Twins-keep-hops, Twins-keep-number, Twins-keep-columns}
 
-equal-if-both : (x y : Bool) → (x ≡ true → y ≡ true) → (y ≡ true → x ≡ true) → x ≡ y
+pub equal-if-both : (x y : Bool) → (x ≡ true → y ≡ true) → (y ≡ true → x ≡ true) → x ≡ y
 equal-if-both true y f g = sym (f refl)
 equal-if-both false true f g = g refl
 equal-if-both false false f g = refl

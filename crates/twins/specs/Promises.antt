@@ -3,13 +3,13 @@
 use mathlib.Core.Path.{_≡_}
 use mathlib.Core.Bool.{Bool, true, false}
 use mathlib.Core.Logic.{_↔_, _≢_}
-use mathlib.Core.List.{List, [], _∷_}
+use mathlib.Core.List.{List, [], _∷_, _++_}
 use Prim.Native.Nat.{ℕ, _-_, _≤_, _<_}
 use lib.ListN.{take}
-use Rattle.rack.specs.Lists.{count, lowest}
-use Rattle.rack.specs.Wiring.{Wiring, link-count, link-at, joins, linked, touches}
+use Rattle.rack.specs.Lists.{count, all, lowest}
+use Rattle.rack.specs.Wiring.{Link, Wiring, wiring, link-count, link-at, joins, linked, touches}
 use Rattle.rack.specs.Hops.{hops, connected}
-use Rattle.rack.specs.Columns.{column, columns, column-count}
+use Rattle.rack.specs.Columns.{column, columns, column-count, address}
 use Rattle.rack.specs.Embeddings.{times}
 use Rattle.rack.specs.Refusals.{refusal, link-fault, links-refusal, well-formed, parity-refusal, rack-refusal}
 use Rattle.rack.specs.PlanFile.{plan-wiring}
@@ -67,6 +67,14 @@ unfoldable pub Twins-keep-columns : Type 0
 Twins-keep-columns =
     (v w : Wiring) → Same-pairs v w → well-formed v ≡ true → well-formed w ≡ true → rack-refusal v .number ≡ 0 →
     (column-count v ≡ column-count w) × ((c : List Bool) → times c (columns v) ≡ times c (columns w))
+
+-- and where twins stand behind all other links, every column and every address is as it was, bit for bit
+unfoldable pub Twins-behind : Type 0
+Twins-behind =
+    (w : Wiring) (ls : List Link) → well-formed w ≡ true → connected w ≡ true → parity-refusal w .number ≡ 0 →
+    all (λ l. linked w (l .first) (l .second)) ls ≡ true →
+    let v = wiring (w .cards) (w .links ++ ls) in
+    (columns v ≡ columns w) × ((c j : ℕ) → address v c j ≡ address w c j)
 
 -- of a rack's links, i is the lowest that joins two cards
 abbrev pub Lowest-joining : Wiring → (a b i : ℕ) → Type 0
