@@ -96,8 +96,8 @@ twin-cases =
     ∷ adds 1 (hex "03 00 03 00 02 00" ++ hex "00 00 01 00 01 00 01 00 00 00 02 00" ++ hex "00 01 03") 4 ∷ [])
     ∷ rack "P5 with each link doubled behind it, the other way round: its columns and its steps" 4
     (ring-of-four ++ (link 1 0 ∷ link 2 1 ∷ link 3 2 ∷ link 0 3 ∷ []))
-    (refused 0 0 ∷ sums 8 ∷ addresses ("00" ∷ "10" ∷ "11" ∷ "01" ∷ []) ∷ read-as 0 ∷ column-is 4 0 ∷ column-is 5 1 ∷ column-is 7 1
-    ∷ steps-over 0 2 0 1 ∷ steps-over 0 3 3 3 ∷ walks 0 2 2 (0 ∷ 1 ∷ 2 ∷ []) ∷ [])
+    (refused 0 0 ∷ read-as 0 ∷ sums 8 ∷ column-is 4 0 ∷ column-is 5 1 ∷ column-is 7 1
+    ∷ steps-over 0 2 0 1 ∷ steps-over 0 3 3 3 ∷ walks 0 2 2 (0 ∷ 1 ∷ 2 ∷ []) ∷ addresses ("00" ∷ "10" ∷ "11" ∷ "01" ∷ []) ∷ [])
     ∷ rack "P5 behind a twin of its last link: that column comes first" 4 (link 0 3 ∷ ring-of-four)
     (refused 0 0 ∷ addresses ("00" ∷ "01" ∷ "11" ∷ "10" ∷ []) ∷ column-is 4 0 ∷ steps-over 0 2 0 3 ∷ steps-over 3 0 0 0 ∷ [])
     ∷ rack "P7 behind a twin of its level link: 10 with the lower" 3 (link 2 1 ∷ link 0 1 ∷ link 1 2 ∷ link 2 0 ∷ []) (refused 10 0 ∷ [])
