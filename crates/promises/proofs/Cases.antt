@@ -38,7 +38,8 @@ use Rattle.listing_text.specs.Listing.{number-line, address-text, card-line, si
 use Rattle.promises.specs.Claims.{hex-digit, hex-bytes, hex, Claim, ends-so, counts-of, same-traffic, turns-of, chooses, claim-holds}
 use Rattle.promises.specs.Claims.{Case, case, rack, file-of, plan-of, case-holds, failing}
 use Rattle.promises.specs.Cases.{ring-of-four, ring-of-six, ring-plan, star-of-nine-plan, star-of-ten-plan, doubled-plan}
-use Rattle.promises.specs.Cases.{required-cases, size-cases, link-cases, twin-cases, rack-cases, plan-cases, call-cases, crossing-cases, caller-cases, turn-cases, conference-cases, last-card-cases, opened-cases, cases}
+use Rattle.promises.specs.Cases.{required-cases, size-cases, link-cases, twin-cases, rack-cases, plan-cases, call-cases, crossing-cases}
+use Rattle.promises.specs.Cases.{caller-cases, turn-cases, conference-cases, last-card-cases, opened-cases, cases}
 
 -- A CLAIM THAT FAILS has no proof, and the checker's message shows it, behind the name of its row. Both types are pairs: to check a
 -- pair the checker has to compute the list, and then says what it found in it.

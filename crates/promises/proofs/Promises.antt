@@ -13,7 +13,7 @@ use Rattle.reader.proofs.Promises as reader
 use Rattle.forwarder.specs.Promises.{Step-first, Step-local, Step-call-local, Walk-ends, Frame-arrives, Walk-arrives, Walk-full, Stuck-uncounted}
 use Rattle.forwarder.proofs.Promises as forwarder
 use Rattle.twins.specs.Promises.{Third-refused, Two-may-join, Twins-alike, Twins-keep-hops, Twins-keep-number, Twins-keep-columns}
-use Rattle.twins.specs.Promises.{Twins-behind, Step-lowest, Step-answer-lowest, Walk-lowest, Doubled-stays, Added-single}
+use Rattle.twins.specs.Promises.{Twins-behind, Step-lowest, Step-answer-lowest, Walk-lowest, Doubled-stays, Doubled-refused, Added-single}
 use Rattle.twins.proofs.Promises as twins
 use Rattle.text.specs.Promises.{Decimal-value, Decimal-first, Decimal-digits}
 use Rattle.text.proofs.Promises as text
@@ -202,9 +202,12 @@ step-answer-lowest = twins.step-answer-lowest
 pub walk-lowest : Walk-lowest
 walk-lowest = twins.walk-lowest
 
--- a last card on two links stays, and a card added is on one
+-- a last card on two links stays, with 17 from the call, and a card added is on one
 pub doubled-stays : Doubled-stays
 doubled-stays = twins.doubled-stays
+
+pub doubled-refused : Doubled-refused
+doubled-refused = twins.doubled-refused
 
 pub added-single : Added-single
 added-single = twins.added-single

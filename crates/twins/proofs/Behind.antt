@@ -23,6 +23,9 @@ module _ (w : Wiring) (ls : List Link) (twins : all (λ l. linked w (l .first) (
   abbrev doubled : Wiring
   doubled = wiring (w .cards) (w .links ++ ls)
 
+  twin-linked : (l : Link) → In l ls → linked w (l .first) (l .second) ≡ true
+  twin-linked = all-in (λ l. linked w (l .first) (l .second)) ls twins
+
   -- THE SAME PAIRS are linked
   old-linked : (a b : ℕ) → linked w a b ≡ true → linked doubled a b ≡ true
   old-linked a b h = let r = linked-link w a b h in link-linked doubled a b (r .0) (in-left (r .0) (w .links) ls (r .1)) (r .2)
@@ -31,8 +34,8 @@ module _ (w : Wiring) (ls : List Link) (twins : all (λ l. linked w (l .first) (
   all-linked a b h = let r = linked-link doubled a b h in ⊎-elim (λ m. link-linked w a b (r .0) m (r .2)) (λ m. twin (r .0) m (r .2)) (in-append (r .0) (w .links) ls (r .1))
     where
       twin : (l : Link) → In l ls → Ends a b l → linked w a b ≡ true
-      twin l m (inl e) = rw (← e .0, ← e .1) (all-in (λ l. linked w (l .first) (l .second)) ls twins l m)
-      twin l m (inr e) = rw (← e .0, ← e .1) (linked-sym w (l .first) (l .second) (all-in (λ l. linked w (l .first) (l .second)) ls twins l m))
+      twin l m (inl e) = rw (← e .0, ← e .1) (twin-linked l m)
+      twin l m (inr e) = rw (← e .0, ← e .1) (linked-sym w (l .first) (l .second) (twin-linked l m))
 
   same-pairs : Same-pairs doubled w
   same-pairs = (refl, λ a b. equal-if-both (linked doubled a b) (linked w a b) (all-linked a b) (old-linked a b))
@@ -65,7 +68,7 @@ module _ (w : Wiring) (ls : List Link) (twins : all (λ l. linked w (l .first) (
 
   module _ (rack : Rack w) (even : parity-refusal w .number ≡ 0) where
     twin-known : (l : Link) → In l ls → In (column w l) (columns w)
-    twin-known l m = go (linked-link w (l .first) (l .second) (all-in (λ l. linked w (l .first) (l .second)) ls twins l m))
+    twin-known l m = go (linked-link w (l .first) (l .second) (twin-linked l m))
       where
         ends-back : (k : Link) → Ends (l .first) (l .second) k → Ends (k .first) (k .second) l
         ends-back k (inl e) = inl (sym (e .0), sym (e .1))

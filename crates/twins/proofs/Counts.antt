@@ -1,6 +1,6 @@
 -- How many links join two cards: at most two where none of 6 to 8 applies, and 8 is said of the third. Assumes nothing.
 use mathlib.Core.Path.{_≡_, refl, sym, ap, _∙_}
-use mathlib.Core.Bool.{Bool, true, false, _&&_, _||_, not, cond}
+use mathlib.Core.Bool.{Bool, true, false, _&&_, _||_, not, cond, or-comm}
 use mathlib.Core.Logic.{inl, inr, _≢_}
 use mathlib.Core.List.{List, [], _∷_}
 use Prim.Native.Nat.{ℕ, zero, suc, _+_, _≤_, _<_}
@@ -20,12 +20,6 @@ use Rattle.rack.proofs.Refusals.{Joins-cards, lowest-fault-none, lowest-fault-i
 use Rattle.twins.specs.Promises.{Third-link, Third-refused, Two-may-join}
 
 -- LINKS that join the same two cards
-or-comm : (x y : Bool) → (x || y) ≡ (y || x)
-or-comm true true = refl
-or-comm true false = refl
-or-comm false true = refl
-or-comm false false = refl
-
 joins-alike : (a b : ℕ) (l k : Link) → Ends a b l → joins a b k ≡ joins (l .first) (l .second) k
 unfolding joins
 joins-alike a b l k (inl e) = rw (e .0, e .1) refl
@@ -34,7 +28,7 @@ joins-alike a b l k (inr e) =
 
 module _ (w : Wiring) where
   -- ONE MORE LINK that passes raises a pair's count to the limit at most
-  pub few-links : (a b i : ℕ) → i ≤ link-count w → ((j : ℕ) → j < i → link-fault w j ≡ 0) → count (joins a b) (take i (w .links)) ≤ most-parallel
+  few-links : (a b i : ℕ) → i ≤ link-count w → ((j : ℕ) → j < i → link-fault w j ≡ 0) → count (joins a b) (take i (w .links)) ≤ most-parallel
   few-links a b zero h clear = omega arith
   few-links a b (suc i) h clear = next (few-links a b i (omega arith) (λ j l. clear j (omega arith)))
     where
@@ -62,25 +56,22 @@ count-before p [] i d h t = absurd (omega arith)
 count-before p (l ∷ ls) zero d h t = rw t (omega arith)
 count-before p (l ∷ ls) (suc i) d h t = let k = count-before p ls i d (omega arith) t in omega arith
 
+few-before : (w : Wiring) → ((a b : ℕ) → count (joins a b) (w .links) ≤ most-parallel) → (i : ℕ) → i < link-count w
+    → count (joins (link-at w i .first) (link-at w i .second)) (take i (w .links)) < most-parallel
+few-before w few i l =
+    let k = link-at w i in
+    let here = ends-join (k .first) (k .second) k (inl (refl, refl)) in
+    omega (arith, few (k .first) (k .second), count-before (joins (k .first) (k .second)) (w .links) i (link 0 0) l here)
+
 pub two-may-join : Two-may-join
 unfolding Two-may-join links-refusal
-two-may-join w = (there, back)
-  where
-    there : links-refusal w .number ≡ 0 → ((i : ℕ) → i < link-count w → Joins-cards w (link-at w i)) × ((a b : ℕ) → count (joins a b) (w .links) ≤ 2)
-    there h =
-        let clear = lowest-fault-clear (link-count w) (link-fault w) h in (
-          λ i l. link-fault-clear w i (clear i l),
-          λ a b. let few = few-links w a b (link-count w) (omega arith) clear in rw (take-length (w .links)) at few,
-        )
-
-    back : ((i : ℕ) → i < link-count w → Joins-cards w (link-at w i)) × ((a b : ℕ) → count (joins a b) (w .links) ≤ 2) → links-refusal w .number ≡ 0
-    back (joined, few) = rw (lowest-fault-none (link-count w) (link-fault w) (λ i l. clear-link-fault w i (joined i l) (fewer i l))) refl
-      where
-        fewer : (i : ℕ) → i < link-count w → count (joins (link-at w i .first) (link-at w i .second)) (take i (w .links)) < most-parallel
-        fewer i l =
-            let k = link-at w i in
-            let here = ends-join (k .first) (k .second) k (inl (refl, refl)) in
-            omega (arith, few (k .first) (k .second), count-before (joins (k .first) (k .second)) (w .links) i (link 0 0) l here)
+two-may-join w = (
+  (λ h. let clear = lowest-fault-clear (link-count w) (link-fault w) h in (
+    (λ i l. link-fault-clear w i (clear i l)),
+    λ a b. let few = few-links w a b (link-count w) (omega arith) clear in rw (take-length (w .links)) at few,
+  )),
+  λ r. rw (lowest-fault-none (link-count w) (link-fault w) (λ i l. clear-link-fault w i (r .0 i l) (few-before w (r .1) i l))) refl,
+)
 
 -- THE LOWEST LINK in fault, where its number is 8
 cond-other : (t : Bool) (x y v : ℕ) → x ≢ v → cond t x y ≡ v → (t ≡ false) × (y ≡ v)

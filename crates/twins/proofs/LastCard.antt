@@ -9,20 +9,29 @@ use borrow.Author.Tests.{eqb-true, ne-eqb}
 use Rattle.rack.specs.Lists.{one, count, lowest}
 use Rattle.rack.specs.Wiring.{Link, Wiring, link, link-count, link-at, joins, touches}
 use Rattle.rack.specs.Refusals.{links-refusal, well-formed}
+use Rattle.rack.specs.PlanFile.{plan-wiring}
 use Rattle.rack.proofs.Logic.{not-true-false, and-right}
 use Rattle.rack.proofs.Lists.{In, getD-in, none-count, count-snoc}
 use Rattle.rack.proofs.Tables.{lowest-least}
 use Rattle.rack.proofs.Paths.{Ends, joins-ends, ends-join}
 use Rattle.rack.proofs.Refusals.{Joins-cards}
 use Rattle.pendant.specs.Pendant.{with-card, last-hangs}
-use Rattle.twins.specs.Promises.{Two-may-join, Doubled-stays, Added-single}
+use Rattle.last_card.specs.Calls.{take-off-refusal}
+use Rattle.last_card.specs.Promises.{Take-off-refused}
+use Rattle.last_card.proofs.Promises.{take-off-refused}
+use Rattle.twins.specs.Promises.{Two-may-join, Doubled-stays, Doubled-refused, Added-single}
 use Rattle.twins.proofs.Counts.{two-may-join}
 
 pub doubled-stays : Doubled-stays
 unfolding Doubled-stays last-hangs
-doubled-stays w i j l h first second =
+doubled-stays w i j (l, h, first, second) =
     let touching : ℕ → Bool = λ i. touches (w .cards - 1) (link-at w i) in
     ne-eqb (suc (lowest (link-count w) touching)) (link-count w) (λ e. omega (arith, lowest-least (link-count w) touching i first))
+
+pub doubled-refused : Doubled-refused
+unfolding Doubled-refused Doubled-stays Take-off-refused
+doubled-refused ps t i j r output output-now says long read two =
+    says .plan .number ∙ ap (take-off-refusal ps t) long ∙ take-off-refused ps t .1 .1 (read, doubled-stays (plan-wiring ps) i j two)
 
 module _ (w : Wiring) (c : ℕ) (formed : well-formed w ≡ true) (inside : c < w .cards) where
   abbrev n : ℕ

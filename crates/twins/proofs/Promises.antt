@@ -1,6 +1,6 @@
 -- The promises of specs/Promises.antt, proved. Assumes nothing.
 use Rattle.twins.specs.Promises.{Third-refused, Two-may-join, Twins-alike, Twins-keep-hops, Twins-keep-number, Twins-keep-columns}
-use Rattle.twins.specs.Promises.{Twins-behind, Step-lowest, Step-answer-lowest, Walk-lowest, Doubled-stays, Added-single}
+use Rattle.twins.specs.Promises.{Twins-behind, Step-lowest, Step-answer-lowest, Walk-lowest, Doubled-stays, Doubled-refused, Added-single}
 use Rattle.twins.proofs.Counts
 use Rattle.twins.proofs.Columns
 use Rattle.twins.proofs.SamePairs
@@ -40,6 +40,9 @@ walk-lowest = Steps.walk-lowest
 
 pub doubled-stays : Doubled-stays
 doubled-stays = LastCard.doubled-stays
+
+pub doubled-refused : Doubled-refused
+doubled-refused = LastCard.doubled-refused
 
 pub added-single : Added-single
 added-single = LastCard.added-single

@@ -5,7 +5,7 @@ use mathlib.Core.Bool.{Bool, true, false}
 use mathlib.Core.Logic.{_↔_, _≢_}
 use mathlib.Core.List.{List, [], _∷_, _++_}
 use Prim.Native.Nat.{ℕ, _-_, _≤_, _<_}
-use lib.ListN.{take}
+use lib.ListN.{length, take}
 use Rattle.rack.specs.Lists.{count, all, lowest}
 use Rattle.rack.specs.Wiring.{Link, Wiring, wiring, link-count, link-at, joins, linked, touches}
 use Rattle.rack.specs.Hops.{hops, connected}
@@ -18,6 +18,9 @@ use Rattle.reader.specs.Plan.{layout-holds}
 use Rattle.forwarder.specs.Forwarding.{step, walk}
 use Rattle.forwarder.specs.Calls.{Step-says}
 use Rattle.forwarder.specs.declared.step.Stepped.{Stepped}
+use Rattle.last_card.specs.Calls.{Take-off-says}
+use Rattle.last_card.specs.Promises.{Read-with}
+use Rattle.last_card.specs.declared.SummedPlan.{SummedPlan}
 
 -- link i is "a third link between two cards": two earlier ones join them, drawn either way
 abbrev pub Third-link : Wiring → (i : ℕ) → Type 0
@@ -104,11 +107,20 @@ unfoldable pub Walk-lowest : Type 0
 Walk-lowest =
     (ps : List ℕ) (a b : ℕ) → layout-holds ps ≡ true → Lowest-along (plan-wiring ps) (walk ps a b .met) (walk ps a b .taken)
 
--- "A last card on a doubled cable can't be taken off (17)": with two links at the last card, it does not hang on the last link
+-- links i and j have the last card at an end
+abbrev pub Two-at-last : Wiring → (i j : ℕ) → Type 0
+Two-at-last w i j =
+    (i < j) × (j < link-count w) × (touches (w .cards - 1) (link-at w i) ≡ true) × (touches (w .cards - 1) (link-at w j) ≡ true)
+
+-- "A last card on a doubled cable can't be taken off": it does not hang on the last link alone
 unfoldable pub Doubled-stays : Type 0
-Doubled-stays =
-    (w : Wiring) (i j : ℕ) → i < j → j < link-count w →
-    touches (w .cards - 1) (link-at w i) ≡ true → touches (w .cards - 1) (link-at w j) ≡ true → last-hangs w ≡ false
+Doubled-stays = (w : Wiring) (i j : ℕ) → Two-at-last w i j → last-hangs w ≡ false
+
+-- "(17)", of the call's answer, on a plan that is read and comes with its own sum
+unfoldable pub Doubled-refused : Type 0
+Doubled-refused =
+    (ps : List ℕ) (t i j : ℕ) (r : SummedPlan) (output output-now : List ℕ) → Take-off-says ps t r output output-now →
+    length output ≡ 16390 → Read-with ps t → Two-at-last (plan-wiring ps) i j → r .number ≡ 17
 
 -- adding a card never makes a twin: the new link alone joins its cards, and as many links as before join any two others
 unfoldable pub Added-single : Type 0
