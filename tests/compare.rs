@@ -16,7 +16,7 @@ mod twins;
 use both::{Answer, Both, Call, Lengths, NUMBERS};
 use drawn::{some_card, some_count, some_length, MOST};
 use faults::{plans, wirings};
-use racks::kinds::SHAPES;
+use racks::kinds::of_round;
 use racks::{Rack, Rng};
 use second::CALLERS;
 use twins::Twins;
@@ -109,13 +109,12 @@ fn check_reach(both: &Both, twins: &Twins) {
 }
 
 fn run_round(both: &mut Both, rng: &mut Rng, twins: &mut Twins) {
-    let round = both.round as usize;
-    let shape = &SHAPES[round % SHAPES.len()];
+    let (shape, twice) = of_round(both.round);
     let mut rack = (shape.make)(rng);
     if rng.below(8) > 0 {
         rack = rack.shuffled(rng);
     }
-    if round / SHAPES.len() % 2 == 1 {
+    if twice {
         let doubled = rack.doubled(rng);
         twins.compare(both, &rack, &doubled);
         rack = doubled.rack;

@@ -44,7 +44,7 @@ use inner_changes::{change_damaged, change_plan};
 use inner_drawn::{some_caller, some_frame, some_lengths, some_sizes, some_total, some_traffic};
 use inner_totals::sum_up;
 use inner_twins::{follow_links, plan_doubled};
-use racks::kinds::SHAPES;
+use racks::kinds::of_round;
 use racks::Rng;
 use second::columns::column_numbers;
 use second::planner::Wiring;
@@ -130,10 +130,9 @@ fn check_reach(both: &Both) {
 }
 
 fn run_round(both: &mut Both, rng: &mut Rng) {
-    let round = both.round as usize;
-    let shape = &SHAPES[round % SHAPES.len()];
+    let (shape, twice) = of_round(both.round);
     let mut rack = (shape.make)(rng).shuffled(rng);
-    if round / SHAPES.len() % 2 == 1 {
+    if twice {
         let doubled = rack.doubled(rng);
         plan_doubled(both, &rack, &doubled);
         rack = doubled.rack;

@@ -61,7 +61,14 @@ const fn open_shape(make: fn(&mut Rng) -> Rack) -> Shape {
     Shape { make, number: None }
 }
 
-pub const SHAPES: [Shape; 30] = [
+/// The shape of a round, and whether its links are doubled: every other time that the shape comes up.
+pub fn of_round(round: u64) -> (&'static Shape, bool) {
+    let round = round as usize;
+    let (turn, shape) = (round / SHAPES.len(), round % SHAPES.len());
+    (&SHAPES[shape], (turn + shape) % 2 == 1)
+}
+
+const SHAPES: [Shape; 30] = [
     shape(0, |rng| chain(size(rng, 1))),
     shape(0, |rng| ring(size(rng, 4) & !1)),
     shape(0, |rng| star(size(rng, 1))),
