@@ -1,4 +1,6 @@
 // Walks by caller: each raises the counts of the caller that it names. By numbers, and of a lent frame.
+#![tactic(auto)]
+
 ghost use Rattle.std.specs.Prelude.{◌≡◌};
 ghost use Rattle.callers.specs.Walking.{CallerArrived, CallerCanTake, CallerFrame, CallerFull, CallerWalkSays, not_walked};
 ghost use Rattle.callers.specs.Walking.{LentArrived, LentCanTake, LentFrame, LentWalkSays};
@@ -11,7 +13,7 @@ use traffic::{Traffic, caller_fault, tally_of, with_tally};
 use turns::frames::{LEAST_FRAME, frame_caller, frame_goal};
 
 // A refusal's number, 0 for none; 1 for arrived or 0 for stuck, the hops, the first column crossed, and the counts handed back.
-#[derive(Drop)]
+#[derive(Clone, Copy)]
 pub struct CallerWalk {
     pub number: u32,
     pub arrived: u32,

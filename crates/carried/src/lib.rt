@@ -1,5 +1,7 @@
 // The calls on an opened plan, over its bytes and the numbers carried with them: each is the call of a layer below on these bytes, or on
 // none of them where the sizes are not those in the bytes. Those that test 13 test the sum of hops too.
+#![tactic(auto)]
+
 ghost use Rattle.std.specs.Prelude.{◌≡◌, cond, [], eqb};
 ghost use Rattle.rack.specs.Buffers.{SliceIs};
 ghost use Rattle.crossing.specs.Crossing.{FrameStepSays};

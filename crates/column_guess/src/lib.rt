@@ -8,6 +8,8 @@
 // label parts p and q, labels of the two shortest ways on which card 0 leads to them name the same columns: a loop is closed, and in a loop
 // the links at opposite places cross the same column, so the labels of one way are renamed to those of the other in reversed order.
 // At the end the labels are numbered by their lowest links.
+#![tactic(auto)]
+
 ghost use Rattle.std.specs.Prelude.{◌≤◌, ◌≡◌, length};
 ghost use Rattle.rack.specs.Formed.{SizesAre};
 ghost use Rattle.rack.specs.Limits.{lent_words, most_columns};

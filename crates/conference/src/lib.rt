@@ -1,4 +1,6 @@
 // The conference card of three cards, on a plan's own bytes. Definitions in specs/, laws in proofs/.
+#![tactic(auto)]
+
 ghost use Rattle.std.specs.Prelude.{◌≡◌, ◌<◌};
 ghost use Rattle.counting.specs.Ones.{Counts};
 ghost use Rattle.rack.specs.PlanFile.{plan_cards, plan_wiring};
@@ -13,7 +15,7 @@ use reader::places::plan_hamming;
 use reader::read::read_plan;
 
 // A refusal's number, 0 for none; 1 and the card, or 0 and 0 where there is none.
-#[derive(Drop)]
+#[derive(Clone, Copy)]
 pub struct Conference {
     pub number: u32,
     pub found: u32,
@@ -21,7 +23,7 @@ pub struct Conference {
 }
 
 // The three cards, and the hops between each two of them.
-#[derive(Drop)]
+#[derive(Clone, Copy)]
 struct Callers {
     a: usize,
     b: usize,

@@ -1,4 +1,6 @@
 // Steps and walks with the column that they cross. Definitions in specs/, a link's column in proofs/.
+#![tactic(auto)]
+
 ghost use Rattle.rack.specs.Hops.{hops};
 ghost use Rattle.rack.specs.PlanFile.{plan_wiring};
 ghost use Rattle.forwarder.specs.Calls.{Arrived, CanTake, Frame, Full};
@@ -13,14 +15,14 @@ use reader::layout::plan_layout;
 pub mod places;
 
 // A step, and the column that it crosses.
-#[derive(Drop)]
+#[derive(Clone, Copy)]
 pub struct FrameStep {
     pub stepped: Stepped,
     pub crossed: FirstColumn,
 }
 
 // A walk, and the first column that it crosses.
-#[derive(Drop)]
+#[derive(Clone, Copy)]
 pub struct FrameWalk {
     pub walked: Walked,
     pub crossed: FirstColumn,

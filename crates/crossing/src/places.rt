@@ -14,14 +14,14 @@ use reader::layout::Sizes;
 use reader::places::plan_hamming;
 
 // 1 for a column or 0 for none, and the column.
-#[derive(Drop)]
+#[derive(Clone, Copy)]
 pub struct FirstColumn {
     pub found: u32,
     pub column: u32,
 }
 
 // How many columns differ, and the lowest of them.
-#[derive(Drop)]
+#[derive(Clone, Copy)]
 pub struct Places {
     pub count: u32,
     pub first: FirstColumn,

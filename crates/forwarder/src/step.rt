@@ -16,7 +16,7 @@ use reader::layout::{Sizes, no_sizes, plan_layout};
 use reader::places::plan_hamming;
 
 // A refusal's number, 0 for none; the outcome: 0 stuck, 1 arrived, 2 over a link to its far card.
-#[derive(Drop)]
+#[derive(Clone, Copy)]
 pub struct Stepped {
     pub number: u32,
     pub outcome: u32,
@@ -25,7 +25,7 @@ pub struct Stepped {
 }
 
 // The same without a refusal, and where it is over a link the places in which the far card's address differs from the goal's.
-#[derive(Drop)]
+#[derive(Clone, Copy)]
 pub struct Onward {
     pub outcome: u32,
     pub link: u32,

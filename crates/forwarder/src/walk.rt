@@ -18,14 +18,14 @@ use reader::places::plan_hamming;
 pub const LENT_MET: usize = 256;
 
 // Frames that arrived, and their hops.
-#[derive(Drop)]
+#[derive(Clone, Copy)]
 pub struct Tally {
     pub frames: u32,
     pub hops: u32,
 }
 
 // A refusal's number, 0 for none; 1 for arrived or 0 for stuck, the hops, and the counts handed back.
-#[derive(Drop)]
+#[derive(Clone, Copy)]
 pub struct Walked {
     pub number: u32,
     pub arrived: u32,
@@ -34,7 +34,7 @@ pub struct Walked {
 }
 
 // How a walk ended: 1 for arrived or 0 for stuck, its hops, and the cards met, the first one first, with zeros behind them.
-#[derive(Drop)]
+#[derive(Clone, Copy)]
 struct Route {
     arrived: u32,
     hops: u32,

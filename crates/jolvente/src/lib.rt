@@ -1,4 +1,6 @@
 // The calls for C, by numbers and byte slices: write a plan, read a plan, walk a frame.
+#![tactic(auto)]
+
 ghost use Rattle.std.specs.Prelude.{◌≡◌};
 ghost use Rattle.rack.specs.Hops.{hops};
 ghost use Rattle.rack.specs.PlanFile.{plan_wiring};

@@ -1,5 +1,7 @@
 // A card more at the end of one cable, and the last card taken off: from a plan's bytes and the sum of its hops to the bytes that the planner
 // would write and their sum, with no second planning. Definitions in specs/, laws in proofs/.
+#![tactic(auto)]
+
 ghost use Rattle.std.specs.Prelude.{◌≡◌};
 ghost use Rattle.last_card.specs.Calls.{AddSays, TakeOffSays, not_changed};
 
@@ -8,7 +10,7 @@ use plan_totals::{hops_from, read_with_total};
 use rack::limits::LENT_PLAN;
 
 // A refusal's number, 0 for none, and with 0 the length of the new plan and the sum of its hops.
-#[derive(Drop)]
+#[derive(Clone, Copy)]
 pub struct SummedPlan {
     pub number: u32,
     pub length: u32,

@@ -1,4 +1,6 @@
 // The listing of a wiring file that is read, to where it is written.
+#![tactic(auto)]
+
 ghost use Rattle.listing_io.specs.Input.{ListsInput};
 
 use listing_text::{LENT_TEXT, listing_text};

@@ -1,4 +1,6 @@
 // The listing of a wiring file: its lines into a lent buffer.
+#![tactic(auto)]
+
 ghost use Rattle.std.specs.Prelude.{◌≡◌, length};
 ghost use Rattle.listing_text.specs.Listing.{listing, lent_text, ListingSays};
 ghost use Rattle.text.specs.Putting.{Puts};

@@ -1,4 +1,6 @@
 // Tests that the fixed words of a listing stand in their places: those of the ring of four, of the triangle and of two cards apart.
+#![tactic(auto)]
+
 use check::same;
 use libc::STDOUT_FILENO;
 use listing_text::{LENT_TEXT, listing_text};

@@ -1,4 +1,6 @@
 // Makes racks by rules, sound and faulty, plans, writes, reads and walks them, and prints a line of what was found for each.
+#![tactic(auto)]
+
 use cases::{files, plans, racks};
 
 pub mod calls;

@@ -2,7 +2,7 @@
 // in the cases.
 ghost use Rattle.std.specs.Prelude.{◌<◌};
 
-#[derive(Drop)]
+#[derive(Clone, Copy)]
 struct Ends(usize, usize);
 
 // A number below 32,768 made from `x` by a linear congruential rule.

@@ -1,4 +1,6 @@
 // An opened plan: the plan's own bytes with their three sizes and the sum of their hops. Its methods hand them to the calls of `carried`.
+#![tactic(auto)]
+
 ghost use Rattle.std.specs.Prelude.{◌≡◌};
 ghost use Rattle.crossing.specs.Crossing.{FrameStepSays};
 ghost use Rattle.conference.specs.Conference.{CardOrNone};
@@ -19,7 +21,7 @@ use reader::layout::Sizes;
 use traffic::Traffic;
 
 // A refused opening has its number, no bytes, sizes 0 and the sum 0. No call looks at the number, and steps and walks not at the sum.
-#[derive(Drop)]
+#[derive(Clone, Copy)]
 pub struct Opened<'a> {
     pub bytes: &'a [u8],
     pub cards: u32,

@@ -1,5 +1,7 @@
 // A plan with one card more on a new last link, and a plan without its last card, written from the plan's own bytes: the old addresses are
 // copied, and a card more has the address of the card that it hangs on with one bit more. Nothing is planned again.
+#![tactic(auto)]
+
 ghost use Rattle.std.specs.Prelude.{◌≡◌, ◌<◌, length, replicate};
 ghost use Rattle.rack.specs.Limits.{lent_plan, most_cards, most_columns, most_links};
 ghost use Rattle.rack.specs.Buffers.{Written};
@@ -18,7 +20,7 @@ use rack::plan_file::{address_size, address_start};
 use reader::layout::Sizes;
 
 // A refusal's number, 0 for none, and with 0 the length of the new plan.
-#[derive(Drop)]
+#[derive(Clone, Copy)]
 pub struct NewPlan {
     pub number: u32,
     pub length: u32,

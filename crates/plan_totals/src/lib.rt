@@ -1,5 +1,7 @@
 // The sum of hops over all pairs of cards of a plan, by its columns, and one card's part of it; reading with that sum. Definitions in
 // specs/, laws in proofs/.
+#![tactic(auto)]
+
 ghost use Rattle.std.specs.Prelude.{◌≡◌, ◌<◌};
 ghost use Rattle.rack.specs.PlanFile.{plan_bit, plan_cards, plan_wiring};
 ghost use Rattle.reader.specs.Promises.{Measured};
@@ -14,7 +16,7 @@ use reader::places::plan_hamming;
 use reader::read::read_plan;
 
 // A refusal's number, 0 for none, and with 0 a plan's sizes and the sum of its hops.
-#[derive(Drop)]
+#[derive(Clone, Copy)]
 pub struct Summed {
     pub number: u32,
     pub cards: u32,

@@ -1,4 +1,6 @@
 // The plan's bytes, written into a lent buffer that is zero at entry: sizes, ends of the links, addresses.
+#![tactic(auto)]
+
 ghost use Rattle.std.specs.Prelude.{◌≡◌, ◌+◌, ◌*◌, ◌<◌, ◌≤◌, length, replicate, ◌++◌};
 ghost use Rattle.rack.specs.Limits.{lent_plan, lent_words, most_cards, most_columns};
 ghost use Rattle.rack.specs.Lists.{tabulate, blocks};

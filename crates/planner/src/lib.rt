@@ -11,6 +11,8 @@
 // all differ in as many places as they are hops apart, these are the addresses; if not, the rack has none, and 11 is said.
 // The tests of 2 to 10 and the hops are those of the crate survey; 9 and 10 need the hops from card 0 alone, and are said before all hops
 // are made.
+#![tactic(auto)]
+
 ghost use Rattle.std.specs.Prelude.{◌≡◌, true, length, replicate};
 ghost use Rattle.rack.specs.Limits.{lent_hops, lent_words};
 ghost use Rattle.rack.specs.Hops.{connected};
@@ -37,7 +39,7 @@ pub mod columns;
 pub mod pairs;
 
 // A refusal's number, 0 for none, the link or card that it carries, and with 0 a value.
-#[derive(Drop)]
+#[derive(Clone, Copy)]
 pub struct Answer {
     pub number: u32,
     pub at: u32,

@@ -1,1 +1,2 @@
 // All promises, proved, and the table of cases.
+#![tactic(auto)]

@@ -7,7 +7,7 @@ use rack::limits::{MOST_CARDS, MOST_COLUMNS, MOST_LINKS};
 use rack::plan_file::{address_size, address_start};
 
 // A refusal's number, 0 for none, and with 0 a plan's sizes.
-#[derive(Drop)]
+#[derive(Clone, Copy)]
 pub struct Sizes {
     pub number: u32,
     pub cards: u32,

@@ -10,6 +10,8 @@
 // are hops. This is relaxation, as Bellman and Ford do it from one card (and as the levels are found), here from all cards at once: a step
 // lowers two rows of bytes, many in one instruction. The links are taken breadth first from card 0, back and forth, which saves rounds and
 // decides nothing.
+#![tactic(auto)]
+
 pub mod hops;
 pub mod levels;
 pub mod links;

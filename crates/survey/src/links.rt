@@ -11,7 +11,7 @@ use rack::bytes::{first_end, number_at, second_end};
 use rack::limits::{MOST_CARDS, MOST_LINKS};
 
 // A refusal's number, 0 for none, and the link or card that it carries.
-#[derive(Drop)]
+#[derive(Clone, Copy)]
 pub struct Refused {
     pub number: u32,
     pub at: u32,

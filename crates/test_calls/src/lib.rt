@@ -1,6 +1,8 @@
 // Calls for the tests alone, over calls that the C calls do not show whole. `test_NAME` takes the arguments of NAME in their order, a
 // struct by its fields; it returns the refusal's number and puts the answer's other fields, in their order, into just as many lent
 // numbers. It is 1, and touches nothing, where they are not as many. A part of lent bytes goes into a lent slice, which shows where it stands.
+#![tactic(auto)]
+
 ghost use Rattle.std.specs.Prelude.{◌≡◌};
 ghost use Rattle.planner.specs.Planning.{PlanSays};
 ghost use Rattle.reader.specs.Reading.{AddressSays, address_refusal};

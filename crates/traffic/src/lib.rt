@@ -1,4 +1,6 @@
 // The traffic record: three counts for each caller, by value, and the test of a caller's number.
+#![tactic(auto)]
+
 ghost use Rattle.std.specs.Prelude.{◌≡◌, ◌<◌};
 ghost use Rattle.rack.specs.Limits.{most_callers};
 ghost use Rattle.traffic.specs.Traffic.{caller_refusal, tally_of, with_tally};
@@ -8,7 +10,7 @@ use rack::limits::MOST_CALLERS;
 use reader::layout::plan_layout;
 
 // For each caller: frames that arrived, their hops, and turns.
-#[derive(Drop)]
+#[derive(Clone, Copy)]
 pub struct Traffic {
     pub frames: [u32; MOST_CALLERS],
     pub hops: [u32; MOST_CALLERS],

@@ -1,4 +1,6 @@
 // Which of two waiting frames goes: the one whose caller has had fewer turns, the first if level.
+#![tactic(auto)]
+
 ghost use Rattle.std.specs.Prelude.{◌≡◌, ◌<◌, get_or};
 ghost use Rattle.rack.specs.Limits.{most_callers};
 ghost use Rattle.turns.specs.Turns.{ChoiceSays, choice_refusal};

@@ -1,5 +1,7 @@
 // Plan writing: a plan is guessed and read. If it is read it is the planner's own, whatever the guess was; if not, the rack is planned from
 // its hops, which alone says that a rack is refused.
+#![tactic(auto)]
+
 ghost use Rattle.std.specs.Prelude.{◌≡◌, replicate};
 ghost use Rattle.rack.specs.Limits.{lent_plan};
 ghost use Rattle.rack.specs.WiringFile.{file_wiring, sizes_fault};
