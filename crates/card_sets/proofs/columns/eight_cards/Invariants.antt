@@ -1,0 +1,13 @@
+-- The word holds the cards from i on. Assumes nothing.
+use mathlib.Core.Path.{◌≡◌, refl, ◌∙◌}
+use Prim.Native.Nat.{◌+◌, ◌*◌, ◌-◌, ◌≤◌, ◌<◌}
+use native.Mathlib.Omega.{arith}
+use lib.ListN.{length, get_or}
+use Rattle.card_sets.proofs.WordBytes.{cards_value, cards_fit, cards_none, cards_all, card_next}
+use Rattle.card_sets.proofs.columns.eight_cards.Given as goal
+
+abbrev pub invariant-loop-i : goal.invariant-loop-i
+invariant-loop-i l = (l.i ≤ l.count) × (l.word ≡ cards_value l.plan l.at l.size l.i (l.count - l.i))
+
+abbrev pub decreases-loop-i : goal.decreases-loop-i
+decreases-loop-i l = l.i

@@ -1,0 +1,68 @@
+-- The loop's invariant: the cards written are those left and the present one, and behind those left stands what is still to be walked.
+-- Each step lessens the differing places, so there is room for its card. Assumes nothing.
+use native.Mathlib.Omega.{arith}
+use Prim.Native.Nat.{◌-◌, ◌<◌}
+use Rattle.forwarder.proofs.Routes.{OnTheWay, walk_begins, few_steps, room_left, far_is_card, walk_steps, walk_stops}
+use Rattle.forwarder.proofs.walk.walk_between.Goals as goal
+
+-- a step over a link leaves room for its card
+known : (c : goal.In-loop-s) → let n = c.args.sizes.cards in let l = c.loop-s in (l.taken < 255) × (l.s.far < n) × (n < 257)
+known c =
+    let s = c in
+    let z = s.requires.1 in
+    let l = c.loop-s in
+    let room = room_left s.args.plan.now s.args.a s.args.b _ _ _ l.invariant c.loop-s-test.true in
+    let card = far_is_card s.args.plan.now s.args.a s.args.b _ _ _ l.invariant c.loop-s-test.true in
+    (omega (arith, z.columns, z.few_columns), omega (arith, z.cards), omega (arith, z.few))
+
+pub overflow_cast-met : goal.overflow_cast-met
+overflow_cast-met c = omega (arith, c.requires.1.few)
+
+pub plan_hamming-left-requires : goal.plan_hamming-left-requires
+plan_hamming-left-requires c = c.requires
+
+pub step_between-s-requires : goal.step_between-s-requires
+step_between-s-requires c = let p = c.requires in (p.0, p.1, p.2, p.3, c.plan_hamming-left.ensures)
+
+pub loop-s-init : goal.loop-s-init
+loop-s-init c = walk_begins _ _ _ _ c.step_between-s.ensures
+
+pub overflow_add-taken : goal.overflow_add-taken
+overflow_add-taken c = omega (arith, known c)
+
+pub overflow_cast-met-in-loop-s : goal.overflow_cast-met-in-loop-s
+overflow_cast-met-in-loop-s c = omega (arith, known c)
+
+pub offset_bounds-met-taken : goal.offset_bounds-met-taken
+offset_bounds-met-taken c = omega (arith, known c)
+
+pub bounds-met-taken : goal.bounds-met-taken
+bounds-met-taken c = omega (arith, known c)
+
+pub overflow_cast-at : goal.overflow_cast-at
+overflow_cast-at c = omega (arith, known c)
+
+pub step_between-s-requires-in-loop-s : goal.step_between-s-requires-in-loop-s
+step_between-s-requires-in-loop-s c =
+    let p = c.requires in
+    (p.0, p.1, (known c).1, p.3, c.loop-s.invariant.next.left c.loop-s-test.true)
+
+pub loop-s-smaller : goal.loop-s-smaller
+loop-s-smaller c = omega (arith, known c)
+
+pub loop-s-preserved : goal.loop-s-preserved
+loop-s-preserved c =
+    let z = c.requires.1 in
+    walk_steps c.args.plan.now c.args.a c.args.b _ _ _ c.loop-s.invariant
+    c.loop-s-test.true (omega (arith, z.columns, z.few_columns)) _
+    c.step_between-s-in-loop-s.ensures
+
+pub overflow_cast-result : goal.overflow_cast-result
+overflow_cast-result c =
+    let z = c.requires.1 in
+    omega (arith, z.columns, z.few_columns, few_steps c.args.plan.now c.args.a c.args.b _ _ _ c.loop-s.invariant)
+
+pub returns : goal.returns
+returns c =
+    walk_stops c.args.plan.now c.args.a c.args.b _ _ _ c.loop-s.invariant
+    (λ e. omega arith) (omega (arith, c.requires.1.columns, c.requires.1.few_columns))

@@ -1,0 +1,37 @@
+-- Each refusal comes before the lent numbers are written; else they are the cards met, and the answer is the walk's. What holds of a frame on a plan that was read follows. Assumes nothing.
+use native.Mathlib.Omega.{arith}
+use mathlib.Core.Path.{sym, ◌∙◌}
+use Rattle.forwarder.proofs.Answers.{says_no_room, says_no_frame, says_full, says_answered}
+use Rattle.forwarder.proofs.Arrival.{with_arrival}
+use borrow.Author.Rules.{rules}
+use Rattle.forwarder.proofs.walk.walk_counted.Goals as goal
+
+pub returns-then-met-ne-LENT_MET : goal.returns-then-met-ne-LENT_MET
+returns-then-met-ne-LENT_MET c = with_arrival _ _ _ _ _ _ _ (says_no_room _ _ _ _ _ _ (λ e. omega arith) c.not_walked.ensures)
+
+pub returns-then-sizes-ne0 : goal.returns-then-sizes-ne0
+returns-then-sizes-ne0 c = with_arrival _ _ _ _ _ _ _ (says_no_frame _ _ _ _ _ _ _ (omega arith) (λ e. omega arith) c.frame_sizes-sizes.ensures.number c.not_walked-then-sizes-ne0.ensures)
+
+pub walk_between-route-requires : goal.walk_between-route-requires
+walk_between-route-requires c =
+    let s = c.frame_sizes-sizes in
+    (c.ones_table-ones.ensures.counts, s.ensures.sizes (omega arith), s.ensures.from (omega arith), s.ensures.goal (omega arith))
+
+pub returns-then-answer-ne0 : goal.returns-then-answer-ne0
+returns-then-answer-ne0 c =
+    with_arrival _ _ _ _ _ _ _
+    (says_full _ _ _ _ _ c.walk_between-route.result _ (omega (arith, c.if-met-ne-LENT_MET.false))
+    (sym c.frame_sizes-sizes.ensures.number ∙ omega (arith, c.if-sizes-ne0.false))
+    c.walk_between-route.ensures c.counted-answer.ensures (λ e. omega (arith, c.if-answer-ne0.true)))
+
+pub copy_cards-requires : goal.copy_cards-requires
+copy_cards-requires c =
+    (c.walk_between-route.ensures.room, omega (arith, c.if-met-ne-LENT_MET.false))
+
+pub returns : goal.returns
+returns c =
+    with_arrival _ _ _ _ _ _ _
+    (says_answered _ _ _ _ _ c.walk_between-route.result _ (omega (arith, c.if-met-ne-LENT_MET.false))
+    (sym c.frame_sizes-sizes.ensures.number ∙ omega (arith, c.if-sizes-ne0.false))
+    c.walk_between-route.ensures c.counted-answer.ensures _ (omega (arith, c.if-answer-ne0.false))
+    c.copy_cards.ensures)

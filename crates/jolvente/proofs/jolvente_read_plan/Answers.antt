@@ -1,0 +1,18 @@
+-- 1 and the reader's refusals come before the record is written; else it has the plan's sizes. The promise follows. Assumes nothing.
+use native.Mathlib.Omega.{arith}
+use borrow.Author.Rules.{rules}
+use Rattle.jolvente.proofs.Answers.{no_room, read_refused, sizes_said}
+use Rattle.jolvente.proofs.PlanPromise.{with_promise}
+use Rattle.jolvente.proofs.jolvente_read_plan.Goals as goal
+
+pub returns-then-record-ne-LENT_RECORD : goal.returns-then-record-ne-LENT_RECORD
+returns-then-record-ne-LENT_RECORD c = with_promise _ _ _ _ (no_room _ _ (λ e. omega arith))
+
+pub returns-then-sizes-ne0 : goal.returns-then-sizes-ne0
+returns-then-sizes-ne0 c =
+    with_promise _ _ _ _ (read_refused _ _ c.read_plan-sizes.result (omega arith) c.read_plan-sizes.ensures.says (λ e. omega arith))
+
+pub returns : goal.returns
+returns c =
+    with_promise _ _ _ _
+    (sizes_said _ _ c.read_plan-sizes.result (omega arith) c.read_plan-sizes.ensures.says (omega arith) _ c.put_record.ensures)

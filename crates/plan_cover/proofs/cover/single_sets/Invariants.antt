@@ -1,0 +1,15 @@
+-- The cards before a have their sets. Assumes nothing.
+use mathlib.Core.Path.{◌≡◌, sym, ◌∙◌}
+use Prim.Native.Nat.{◌-◌, ◌≤◌}
+use native.Mathlib.Omega.{arith}
+use lib.ListN.{length, length-set}
+use Rattle.rack.specs.Limits.{lent_words}
+use Rattle.rack.proofs.Zeros.{zeros_long, zeros_at}
+use Rattle.plan_cover.proofs.SetLoops.{Singles, single_next}
+use Rattle.plan_cover.proofs.cover.single_sets.Given as goal
+
+abbrev pub invariant-loop-a : goal.invariant-loop-a
+invariant-loop-a l = (l.a ≤ l.n) × (length l.cover ≡ lent_words) × Singles l.n l.cover l.a
+
+abbrev pub decreases-loop-a : goal.decreases-loop-a
+decreases-loop-a l = l.n - l.a

@@ -1,0 +1,44 @@
+-- The loop's invariant: the sum is that of the hops to the first c cards. Assumes nothing.
+-- one card more
+use mathlib.Core.Path.{◌≡◌, sym, ap, ◌∙◌}
+use Prim.Native.Nat.{ℕ, ◌+◌, ◌*◌, ◌-◌, ◌≤◌}
+use native.Mathlib.Omega.{arith}
+use borrow.Author.Rules.{rules}
+use Rattle.rack.specs.Limits.{most_cards}
+use Rattle.rack.specs.PlanFile.{plan_wiring}
+use Rattle.totals.specs.Totals.{hops_to}
+use Rattle.plan_totals.proofs.Summing.{hops_none, hops_more, hops_few}
+use Rattle.plan_totals.proofs.hops_from.Goals as goal
+
+-- one card more
+module _ (c : tie.After-plan-hamming invariant-loop decreases-loop) where
+  abbrev at-loop : tie.At-loop invariant-loop decreases-loop
+  at-loop = c
+
+  abbrev start : tie.Start invariant-loop decreases-loop
+  start = at-loop.before.before.before
+
+  added : at-loop.loop.sum + c.plan_hamming-sum.result ≡ hops_to (plan_wiring start.args.plan.now) (at-loop.loop.c + 1) start.args.card
+  added =
+      let a = start.args in
+      hops_more a.plan.now a.sizes start.pre.0 start.pre.1 a.card start.pre.2 at-loop.loop.c at-loop.loop.sum
+      c.plan_hamming-sum.result (omega arith) at-loop.loop.inv.1 c.plan_hamming-sum.ensures
+
+  few : hops_to (plan_wiring start.args.plan.now) (at-loop.loop.c + 1) start.args.card ≤ (at-loop.loop.c + 1) * most_cards
+  few =
+      let a = start.args in
+      hops_few a.plan.now a.sizes start.pre.0 start.pre.1 a.card start.pre.2 (at-loop.loop.c + 1) (omega arith)
+
+pub loop-c-init : goal.loop-c-init
+loop-c-init c = let a = c.args in (omega arith, sym (hops_none a.plan.now a.card))
+
+pub overflow_add-sum : goal.overflow_add-sum
+overflow_add-sum c = omega (arith, added c, few c, (start c).requires.0.few)
+
+pub loop-c-preserved : goal.loop-c-preserved
+loop-c-preserved c = (omega arith, added c)
+
+pub returns : goal.returns
+returns c =
+    let a = c.args in
+    c.loop-c.invariant.1 ∙ ap (λ (n : ℕ). hops_to (plan_wiring a.plan.now) n a.card) (omega (arith, c.requires.0.cards))

@@ -1,0 +1,17 @@
+-- The addresses of the first c cards are appended. Assumes nothing.
+use Rattle.rack.proofs.Appending.{appended_block, Appended, appended_none}
+use Rattle.plan_writer.proofs.WrittenPlan.{address_room, address_inside}
+use mathlib.Core.Path.{◌≡◌, subst}
+use Prim.Native.Nat.{ℕ, ◌-◌, ◌≤◌}
+use native.Mathlib.Omega.{arith}
+use Rattle.rack.specs.Lists.{tabulate, blocks}
+use Rattle.rack.proofs.Tables.{length_tabulate}
+use Rattle.rack.specs.Buffers.{Appends}
+use Rattle.plan_writer.specs.Writing.{word_byte}
+use Rattle.plan_writer.proofs.put_addresses.Given as goal
+
+abbrev pub invariant-loop-c : goal.invariant-loop-c
+invariant-loop-c l = (l.c ≤ l.n) × Appended l.at l.initial.output l.output (blocks l.c (λ i. tabulate l.size (word_byte l.words i)))
+
+abbrev pub decreases-loop-c : goal.decreases-loop-c
+decreases-loop-c l = l.n - l.c

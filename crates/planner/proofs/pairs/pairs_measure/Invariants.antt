@@ -1,0 +1,23 @@
+-- Invariants: the pairs of the cards before `a` follow from those of the cards before these; those of `a` with the cards before `b` too. Assumes nothing.
+use mathlib.Core.Path.{◌≡◌, refl, sym, ◌∙◌}
+use mathlib.Core.Bool.{true, true≢false, false≢true}
+use Prim.Native.Nat.{ℕ, ◌-◌, ◌≤◌, ◌<◌}
+use native.Mathlib.Omega.{arith}
+use lib.ListN.{get_or}
+use borrow.Author.Count.{below_more}
+use Rattle.survey.proofs.Forms.{formed_cards}
+use Rattle.planner.specs.PairSteps.{Follows, PairsFollow}
+use Rattle.planner.proofs.PairSteps.{measure_all, follow_measure, first_follows, more_follow}
+use Rattle.planner.proofs.pairs.pairs_measure.Given as goal
+
+abbrev pub invariant-loop-b : goal.invariant-loop-b
+invariant-loop-b l = (l.b ≤ l.a) × (l.measured ≡ true) × ((x : ℕ) → x < l.b → Follows l.words l.hops l.a l.p x)
+
+abbrev pub decreases-loop-b : goal.decreases-loop-b
+decreases-loop-b l = l.a - l.b
+
+abbrev pub invariant-pairs : goal.invariant-pairs
+invariant-pairs l = (1 ≤ l.a) × (l.a ≤ l.n) × (l.measured ≡ true) × PairsFollow l.words l.hops l.back l.a
+
+abbrev pub decreases-pairs : goal.decreases-pairs
+decreases-pairs l = l.n - l.a

@@ -1,0 +1,62 @@
+-- Each early return leaves a fact of the layout that fails, and at the end all hold: the answer is 12 or the sizes read. Assumes nothing.
+-- where the sizes were read, and the length that they give
+use mathlib.Core.Path.{◌≡◌, refl}
+use Prim.Native.Nat.{◌+◌, ◌*◌}
+use native.Mathlib.Omega.{arith}
+use Rattle.rack.specs.PlanFile.{address_size, addresses_start}
+use Rattle.rack.proofs.PlanFile.{start_counted}
+use Rattle.reader.proofs.Plan.{layout_head, layout_read}
+use Rattle.reader.proofs.Reading.{layout_refused, layout_passed}
+use borrow.Author.Rules.{rules}
+use Rattle.reader.proofs.layout.plan_layout.Goals as goal
+
+-- where the sizes were read, and the length that they give
+module _ (c : tie.After-address-start) where
+  abbrev at-k : tie.After-number-at3
+  at-k = c
+
+  abbrev at-m : tie.After-number-at2
+  at-m = at-k.before
+
+  abbrev at_n : tie.After-number-at
+  at_n = at-m.before
+
+  counted : c.address_start.result ≡ addresses_start at-m.number-at2.result + at_n.number_at.result * address_size at-k.number-at3.result
+  counted = start_counted _ _ _ _ _ c.address_size.ensures.is c.address_start.ensures.is
+
+pub returns-then-plan-lt6 : goal.returns-then-plan-lt6
+returns-then-plan-lt6 c = layout_refused _ _ (λ z. omega (arith, layout_head _ z)) c.no_sizes.ensures
+
+pub returns-then-n-eq0 : goal.returns-then-n-eq0
+returns-then-n-eq0 c = layout_refused _ _ (λ z. omega (arith, z)) c.no_sizes-then-n-eq0.ensures
+
+pub returns-then-n-gt-MOST_CARDS : goal.returns-then-n-gt-MOST_CARDS
+returns-then-n-gt-MOST_CARDS c = layout_refused _ _ (λ z. omega (arith, z)) c.no_sizes-then-n-gt-MOST_CARDS.ensures
+
+pub returns-then-m-gt-MOST_LINKS : goal.returns-then-m-gt-MOST_LINKS
+returns-then-m-gt-MOST_LINKS c = layout_refused _ _ (λ z. omega (arith, z)) c.no_sizes-then-m-gt-MOST_LINKS.ensures
+
+pub returns-then-k-gt-MOST_COLUMNS : goal.returns-then-k-gt-MOST_COLUMNS
+returns-then-k-gt-MOST_COLUMNS c = layout_refused _ _ (λ z. omega (arith, z)) c.no_sizes-then-k-gt-MOST_COLUMNS.ensures
+
+pub returns-then-plan-address_start : goal.returns-then-plan-address_start
+returns-then-plan-address_start c =
+    let n = (at_n c).number_at in
+    let m = (at-m c).number-at2 in
+    let k = (at-k c).number-at3 in
+    layout_refused _ _ (λ z.
+    let read = layout_read _ _ (record { number = refl; cards = n.ensures.0; links = m.ensures.0; columns = k.ensures.0 }) z in
+    omega (arith, read.long, counted c)) c.no_sizes-then-plan-address_start.ensures
+
+pub returns : goal.returns
+returns c =
+    layout_passed _ _ (record {
+      cards = (at_n c).number_at.ensures.0;
+      links = (at-m c).number-at2.ensures.0;
+      columns = (at-k c).number-at3.ensures.0;
+      some = omega arith;
+      few = omega arith;
+      few_links = omega arith;
+      few_columns = omega arith;
+      long = omega (arith, counted c);
+    }) refl

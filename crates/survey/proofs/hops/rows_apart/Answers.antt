@@ -1,0 +1,17 @@
+-- The first b places are compared: one place more each turn, and 256 at the end. Assumes nothing.
+use mathlib.Core.Path.{◌≡◌}
+use Prim.Native.Nat.{◌-◌, ◌≤◌}
+use native.Mathlib.Omega.{arith}
+use borrow.Author.Rules.{rules}
+use Rattle.survey.specs.Lowering.{RowsApart}
+use Rattle.survey.proofs.Rows.{apart_none, apart_more}
+use Rattle.survey.proofs.hops.rows_apart.Goals as goal
+
+pub loop-b-init : goal.loop-b-init
+loop-b-init c = (omega arith, apart_none _ _ _)
+
+pub loop-b-preserved : goal.loop-b-preserved
+loop-b-preserved c = (omega arith, apart_more _ _ _ _ _ _ _ c.loop-b.invariant.1 c.gap.ensures c.larger-far.ensures)
+
+pub returns : goal.returns
+returns c = let e : c.loop-b.b ≡ 256 = omega arith in rw e at c.loop-b.invariant.1

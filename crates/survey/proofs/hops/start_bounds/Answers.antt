@@ -1,0 +1,23 @@
+-- The rows below a hold the first bounds: one row more each turn, and those of all cards at the end. Assumes nothing.
+use mathlib.Core.Path.{◌≡◌, sym, ◌∙◌}
+use Prim.Native.Nat.{◌-◌, ◌≤◌}
+use native.Mathlib.Omega.{arith}
+use Rattle.rack.proofs.Zeros.{zeros_long}
+use Rattle.survey.specs.Lowering.{Started}
+use Rattle.survey.proofs.FirstBounds.{started_none}
+use Rattle.survey.proofs.hops.start_bounds.Goals as goal
+
+pub loop-a-init : goal.loop-a-init
+loop-a-init c = (omega arith, started_none _ _ c.requires.1)
+
+pub start_row-requires : goal.start_row-requires
+start_row-requires c = (omega arith, omega arith, c.loop-a.invariant.1)
+
+pub loop-a-preserved : goal.loop-a-preserved
+loop-a-preserved c = (omega arith, c.start_row.ensures)
+
+pub shape_of-bounds : goal.shape_of-bounds
+shape_of-bounds c = c.loop-a.invariant.1.long ∙ sym (zeros_long _ _ c.requires.1)
+
+pub returns : goal.returns
+returns c = let e : c.loop-a.a ≡ c.args.n = omega arith in rw e at c.loop-a.invariant.1

@@ -1,0 +1,25 @@
+-- The levels stay above hops, and once no link is loose they are hops; each turn that goes on lowers their sum. Assumes nothing.
+use Prim.Native.Nat.{ℕ, ◌+◌, ◌-◌, ◌≤◌, ◌<◌, min}
+use native.Mathlib.Omega.{arith}
+use borrow.Author.Rules.{rules}
+use Rattle.rack.specs.Lists.{sum}
+use Rattle.rack.specs.WiringFile.{file_wiring}
+use Rattle.rack.proofs.Logic.{by_lt}
+use Rattle.survey.specs.CardLevels.{LevelsAbove, LevelTight}
+use Rattle.survey.proofs.CardLevels.{settled_levels}
+use Rattle.survey.proofs.levels.settle_levels.Goals as goal
+
+pub loop-loose-init : goal.loop-loose-init
+loop-loose-init c = (c.requires.1, λ h j l. absurd (omega arith))
+
+pub loop-loose-smaller : goal.loop-loose-smaller
+loop-loose-smaller c =
+    let t = c.tighten_levels-loose in
+    by_lt t.result _ (λ l. omega (arith, t.ensures.fall l)) (λ l. omega arith)
+
+pub loop-loose-preserved : goal.loop-loose-preserved
+loop-loose-preserved c = let t = c.tighten_levels-loose.ensures in (t.kept, t.tight)
+
+pub returns : goal.returns
+returns c =
+    settled_levels _ _ _ c.requires.0 _ c.loop-loose.invariant.0 (c.loop-loose.invariant.1 (omega arith))

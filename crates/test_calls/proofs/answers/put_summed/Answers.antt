@@ -1,0 +1,10 @@
+-- The fields are read back as they were put. Assumes nothing.
+use mathlib.Core.Path.{ap}
+use Rattle.test_calls.specs.Answers.{summed_in}
+use borrow.Author.Rules.{rules}
+use Rattle.test_calls.proofs.answers.put_summed.Goals as goal
+
+pub returns : goal.returns
+returns c =
+    ap (summed_in c.args.s.number)
+    c.put_fields.ensures

@@ -1,0 +1,7 @@
+-- One byte is appended. Assumes nothing.
+use Rattle.text.proofs.Putting.{puts_byte}
+use borrow.Author.Rules.{rules}
+use Rattle.text.proofs.put.put_byte.Goals as goal
+
+pub returns : goal.returns
+returns c = puts_byte c.args.at c.args.text.now c.args.b c.requires
