@@ -25,14 +25,14 @@ shape_of-marks-then-not-link_holds c =
 
 pub returns-then-not-link_holds : goal.returns-then-not-link_holds
 returns-then-not-link_holds c =
-    let fault = eqb-false _ 0 (sym c.link_holds.ensures.is ∙ not-true _ c.if-not-link_holds.true) in
+    let fault = eqb-false _ 0 (sym c.link_holds.ensures.is ∙ c.if-not-link_holds.true) in
     sym (ap (λ (x : Refusal). eqb x.number 0)
     (clear_refusal _ _ (omega (arith, wiring_at_count 6 c.args.plan.now, c.requires.0.links)) c.loop-i.invariant.2 fault)
     ∙ ne_eqb _ 0 fault)
 
 pub loop-i-preserved : goal.loop-i-preserved
 loop-i-preserved c =
-    let holds = not-false _ c.if-not-link_holds.false in (
+    let holds = c.if-not-link_holds.false in (
       omega arith,
       c.link_holds.ensures.marks holds,
       clear_more _ _ c.loop-i.invariant.2 (eqb-true _ 0 (sym c.link_holds.ensures.is ∙ holds)),
