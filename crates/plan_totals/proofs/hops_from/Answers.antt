@@ -9,25 +9,23 @@ use Rattle.rack.specs.PlanFile.{plan_wiring}
 use Rattle.totals.specs.Totals.{hops_to}
 use Rattle.plan_totals.proofs.Summing.{hops_none, hops_more, hops_few}
 use Rattle.plan_totals.proofs.hops_from.Goals as goal
+use Rattle.plan_totals.proofs.hops_from.Goals.{After-plan_hamming-sum}
 
 -- one card more
-module _ (c : tie.After-plan-hamming invariant-loop decreases-loop) where
-  abbrev at-loop : tie.At-loop invariant-loop decreases-loop
-  at-loop = c
-
+module _ (c : After-plan_hamming-sum) where
   abbrev start : tie.Start invariant-loop decreases-loop
-  start = at-loop.before.before.before
+  start = c.before
 
-  added : at-loop.loop.sum + c.plan_hamming-sum.result ≡ hops_to (plan_wiring start.args.plan.now) (at-loop.loop.c + 1) start.args.card
+  added : c.loop-c.sum + c.plan_hamming-sum.result ≡ hops_to (plan_wiring start.args.plan.now) (c.loop-c.c + 1) start.args.card
   added =
       let a = start.args in
-      hops_more a.plan.now a.sizes start.pre.0 start.pre.1 a.card start.pre.2 at-loop.loop.c at-loop.loop.sum
-      c.plan_hamming-sum.result (omega arith) at-loop.loop.inv.1 c.plan_hamming-sum.ensures
+      hops_more a.plan.now a.sizes start.requires.0 start.requires.1 a.card start.requires.2 c.loop-c.c c.loop-c.sum
+      c.plan_hamming-sum.result (omega arith) c.loop-c.invariant.1 c.plan_hamming-sum.ensures
 
-  few : hops_to (plan_wiring start.args.plan.now) (at-loop.loop.c + 1) start.args.card ≤ (at-loop.loop.c + 1) * most_cards
+  few : hops_to (plan_wiring start.args.plan.now) (c.loop-c.c + 1) start.args.card ≤ (c.loop-c.c + 1) * most_cards
   few =
       let a = start.args in
-      hops_few a.plan.now a.sizes start.pre.0 start.pre.1 a.card start.pre.2 (at-loop.loop.c + 1) (omega arith)
+      hops_few a.plan.now a.sizes start.requires.0 start.requires.1 a.card start.requires.2 (c.loop-c.c + 1) (omega arith)
 
 pub loop-c-init : goal.loop-c-init
 loop-c-init c = let a = c.args in (omega arith, sym (hops_none a.plan.now a.card))

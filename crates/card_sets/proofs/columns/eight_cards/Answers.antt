@@ -5,14 +5,15 @@ use native.Mathlib.Omega.{arith}
 use lib.ListN.{length, get_or}
 use Rattle.card_sets.proofs.WordBytes.{cards_value, cards_fit, cards_none, cards_all, card_next}
 use Rattle.card_sets.proofs.columns.eight_cards.Goals as goal
+use Rattle.card_sets.proofs.columns.eight_cards.Goals.{After-word-1, In-loop-i}
 
 -- the card's byte stands inside the plan
-inside : (c : goal.In-loop-i)
+inside : (c : In-loop-i)
     → c.args.at + (c.loop-i.i - 1) * c.args.size < length c.args.plan.now
 inside c = c.requires.3 (c.loop-i.i - 1) (omega arith)
 
 -- the word with one card more
-next : (c : goal.After-word-1)
+next : (c : After-word-1)
     → let a = c.args in
     let l = c.loop-i in
     2 * l.word + get_or a.table.now (get_or a.plan.now (a.at + (l.i - 1) * a.size) 0) 0 ≡ cards_value a.plan.now a.at a.size (l.i - 1) (a.count - (l.i - 1))
@@ -43,7 +44,7 @@ pub overflow_add-word : goal.overflow_add-word
 overflow_add-word c = omega (arith, inside c, c.requires.2)
 
 pub bounds-plan-at : goal.bounds-plan-at
-bounds-plan-at c = inside c
+bounds-plan-at c = inside (goal.at.bounds-plan-at c).In-loop-i
 
 pub overflow_cast-word : goal.overflow_cast-word
 overflow_cast-word c =

@@ -6,9 +6,10 @@ use lib.ListN.{get_or}
 use Rattle.card_sets.specs.WordBytes.{BytesPut}
 use Rattle.card_sets.proofs.PutBytes.{none_put, more_put, next_old, rest_none, rest_next}
 use Rattle.card_sets.proofs.columns.put_bytes.Goals as goal
+use Rattle.card_sets.proofs.columns.put_bytes.Goals.{After-slice_known-1}
 
 -- the next word has eight bits to spare
-room : (c : goal.After-slice_known-1) → get_or c.loop-j.columns (c.args.at + 4 * c.loop-j.j) 0 < 2 ^ 56
+room : (c : After-slice_known-1) → get_or c.loop-j.columns (c.args.at + 4 * c.loop-j.j) 0 < 2 ^ 56
 room c =
     let a = c.args in
     let l = c.loop-j in

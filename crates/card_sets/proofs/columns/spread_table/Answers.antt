@@ -8,9 +8,10 @@ use Rattle.rack.proofs.Logic.{by_eq}
 use Rattle.card_sets.specs.WordBytes.{spread}
 use Rattle.card_sets.proofs.WordBytes.{spread_none, spread_half, spread_fits}
 use Rattle.card_sets.proofs.columns.spread_table.Goals as goal
+use Rattle.card_sets.proofs.columns.spread_table.Goals.{In-loop-x}
 
 -- the entry that is written
-entry : (c : goal.In-loop-x)
+entry : (c : In-loop-x)
     → 256 * get_or c.loop-x.table (c.loop-x.x / 2) 0 + c.loop-x.x % 2 ≡ spread c.loop-x.x
 entry c =
     let l = c.loop-x in

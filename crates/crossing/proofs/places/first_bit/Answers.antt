@@ -8,9 +8,10 @@ use Rattle.rack.specs.PlanFile.{address_size, bit_from}
 use Rattle.crossing.proofs.Differing.{differing_ended}
 use Rattle.crossing.proofs.Searching.{AgreeBefore, bytes_within, bytes_agree}
 use Rattle.crossing.proofs.places.first_bit.Goals as goal
+use Rattle.crossing.proofs.places.first_bit.Goals.{After-equal_bytes-j}
 
 -- the equal bytes are whole ones
-equal-within : (c : goal.After-equal_bytes-j) → c.equal_bytes-j.result ≤ c.args.k / 8
+equal-within : (c : After-equal_bytes-j) → c.equal_bytes-j.result ≤ c.args.k / 8
 equal-within c = let z = c.args in bytes_within z.plan.now z.first z.second (z.k / 8) _ c.equal_bytes-j.ensures
 
 pub equal_bytes-j-requires : goal.equal_bytes-j-requires

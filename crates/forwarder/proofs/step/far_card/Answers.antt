@@ -8,9 +8,10 @@ use Rattle.rack.specs.PlanFile.{plan_wiring}
 use Rattle.forwarder.specs.Parts.{far_end}
 use Rattle.forwarder.proofs.Searching.{far_end_out, far_end_in}
 use Rattle.forwarder.proofs.step.far_card.Goals as goal
+use Rattle.forwarder.proofs.step.far_card.Goals.{After-far_end-c}
 
 -- the far end is that of the link
-ends : (c : goal.After-far_end-c) → let z = c.args in let l = link_at (plan_wiring z.plan.now) z.i in
+ends : (c : After-far_end-c) → let z = c.args in let l = link_at (plan_wiring z.plan.now) z.i in
     c.far_end-c.result ≡ far_end l.first l.second z.a z.sizes.cards
 ends c =
     let z = c.args in
@@ -20,9 +21,9 @@ ends c =
 pub returns-then-n-c : goal.returns-then-n-c
 returns-then-n-c c =
     let z = c.args in
-    sym (far_end_out z.sizes.cards z.a (link_at (plan_wiring z.plan.now) z.i) _ (ends c) (omega arith))
+    sym (far_end_out z.sizes.cards z.a (link_at (plan_wiring z.plan.now) z.i) _ (ends (goal.at.returns-then-n-c c).After-far_end-c) (omega arith))
 
 pub returns : goal.returns
 returns c =
     let z = c.args in
-    sym (far_end_in z.sizes.cards z.a (link_at (plan_wiring z.plan.now) z.i) _ (ends c) (omega arith) (omega arith))
+    sym (far_end_in z.sizes.cards z.a (link_at (plan_wiring z.plan.now) z.i) _ (ends (goal.at.returns c).After-far_end-c) (omega arith) (omega arith))

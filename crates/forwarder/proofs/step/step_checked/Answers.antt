@@ -7,9 +7,10 @@ use Rattle.reader.specs.Reading.{Laid_out}
 use Rattle.forwarder.proofs.Frames.{step_refused, step_answered}
 use borrow.Author.Rules.{rules}
 use Rattle.forwarder.proofs.step.step_checked.Goals as goal
+use Rattle.forwarder.proofs.step.step_checked.Goals.{After-ones_table-ones}
 
 -- what holds of the two cards where nothing is refused
-asked : (c : goal.After-ones_table-ones) → let s = c.frame_sizes-sizes in let z = c.args in
+asked : (c : After-ones_table-ones) → let s = c.frame_sizes-sizes in let z = c.args in
     Counts c.ones_table-ones.result × Laid_out z.plan.now s.result × (z.from < s.result.cards) × (z.goal < s.result.cards)
 asked c =
     let s = c.frame_sizes-sizes in
@@ -19,11 +20,11 @@ pub returns-then-sizes-ne0 : goal.returns-then-sizes-ne0
 returns-then-sizes-ne0 c = step_refused _ _ _ _ _ c.frame_sizes-sizes.ensures.number (λ e. omega arith) c.refused.ensures
 
 pub plan_hamming-left-requires : goal.plan_hamming-left-requires
-plan_hamming-left-requires c = asked c
+plan_hamming-left-requires c = asked (goal.at.plan_hamming-left-requires c).After-ones_table-ones
 
 pub step_between-s-requires : goal.step_between-s-requires
 step_between-s-requires c =
-    let k = asked c in
+    let k = asked (goal.at.step_between-s-requires c).After-ones_table-ones in
     (k.0, k.1, k.2, k.3, c.plan_hamming-left.ensures)
 
 pub returns : goal.returns

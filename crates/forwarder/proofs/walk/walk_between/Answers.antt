@@ -4,15 +4,15 @@ use native.Mathlib.Omega.{arith}
 use Prim.Native.Nat.{◌-◌, ◌<◌}
 use Rattle.forwarder.proofs.Routes.{OnTheWay, walk_begins, few_steps, room_left, far_is_card, walk_steps, walk_stops}
 use Rattle.forwarder.proofs.walk.walk_between.Goals as goal
+use Rattle.forwarder.proofs.walk.walk_between.Goals.{In-loop-s}
 
 -- a step over a link leaves room for its card
-known : (c : goal.In-loop-s) → let n = c.args.sizes.cards in let l = c.loop-s in (l.taken < 255) × (l.s.far < n) × (n < 257)
+known : (c : In-loop-s) → let n = c.args.sizes.cards in let l = c.loop-s in (l.taken < 255) × (l.s.far < n) × (n < 257)
 known c =
-    let s = c in
-    let z = s.requires.1 in
+    let z = c.requires.1 in
     let l = c.loop-s in
-    let room = room_left s.args.plan.now s.args.a s.args.b _ _ _ l.invariant c.loop-s-test.true in
-    let card = far_is_card s.args.plan.now s.args.a s.args.b _ _ _ l.invariant c.loop-s-test.true in
+    let room = room_left c.args.plan.now c.args.a c.args.b _ _ _ l.invariant c.loop-s-test.true in
+    let card = far_is_card c.args.plan.now c.args.a c.args.b _ _ _ l.invariant c.loop-s-test.true in
     (omega (arith, z.columns, z.few_columns), omega (arith, z.cards), omega (arith, z.few))
 
 pub overflow_cast-met : goal.overflow_cast-met
@@ -48,7 +48,7 @@ step_between-s-requires-in-loop-s c =
     (p.0, p.1, (known c).1, p.3, c.loop-s.invariant.next.left c.loop-s-test.true)
 
 pub loop-s-smaller : goal.loop-s-smaller
-loop-s-smaller c = omega (arith, known c)
+loop-s-smaller c = omega (arith, known (goal.at.loop-s-smaller c).In-loop-s)
 
 pub loop-s-preserved : goal.loop-s-preserved
 loop-s-preserved c =

@@ -1,8 +1,9 @@
 -- The mark is set where it was free, by its weight. Assumes nothing.
--- the word fits, and the mark is free
 use mathlib.Core.Bool.{false}
 use mathlib.Core.Path.{◌≡◌}
-use Prim.Native.Nat.{◌+◌, ◌*◌, ◌/◌, ◌%◌, ◌^◌, ◌<◌}
+use mathlib.Core.List.{List}
+use mathlib.Core.Logic.{◌≢◌}
+use Prim.Native.Nat.{ℕ, ◌+◌, ◌*◌, ◌/◌, ◌%◌, ◌^◌, ◌<◌}
 use native.Mathlib.Omega.{arith}
 use lib.ListN.{get_or}
 use borrow.Author.Rules.{rules}
@@ -13,17 +14,10 @@ use Rattle.rack.proofs.Bits.{word_weight}
 use Rattle.plan_tests.proofs.Marks.{mark_there, mark_fits, mark_more}
 use Rattle.plan_tests.proofs.links.set_mark.Goals as goal
 
--- the word fits, and the mark is free
-module _ (c : tie.Else1) where
-  abbrev start : tie.Start
-  start = c
-
-  fits : get_or start.args.marks.now (4 * start.args.a + start.args.b / 64) 0 < 2 ^ 64
-  fits = omega (arith, c.type_inv.marks (4 * start.args.a + start.args.b / 64))
-
-  free : mark_of start.args.marks.now start.args.a start.args.b ≡ false
-  unfolding mark_of number_bit
-  free = ne_eqb _ 1 c.if-word-b-eq1.false
+-- the mark is free
+free : (marks : List ℕ) (a b : ℕ) → get_or marks (4 * a + b / 64) 0 / 2 ^ (b % 64) % 2 ≢ 1 → mark_of marks a b ≡ false
+unfolding mark_of number_bit
+free marks a b h = ne_eqb _ 1 h
 
 pub returns-then-word-b-eq1 : goal.returns-then-word-b-eq1
 unfolding mark_of number_bit
@@ -31,14 +25,18 @@ returns-then-word-b-eq1 c = let a = c.args in mark_there a.marks.now a.a a.b (eq
 
 pub overflow_add-marks : goal.overflow_add-marks
 overflow_add-marks c =
-    let a = (start c).args in
+    let a = c.args in
+    let fits = c.items_fit (4 * a.a + a.b / 64) in
+    let unmarked = free a.marks.now a.a a.b c.if-word-b-eq1.false in
     omega (
       arith,
       word_weight (a.b % 64) (omega arith),
-      mark_fits a.marks.now a.a a.b (start c).requires.0 (start c).requires.1 (start c).requires.2 (fits c) (free c),
+      mark_fits a.marks.now a.a a.b c.requires.0 c.requires.1 c.requires.2 (omega (arith, fits)) unmarked,
     )
 
 pub returns : goal.returns
 returns c =
-    let a = (start c).args in
-    rw (word_weight (a.b % 64) (omega arith)) (mark_more a.marks.now a.a a.b (start c).requires.0 (start c).requires.1 (start c).requires.2 (fits c) (free c))
+    let a = c.args in
+    let fits = c.items_fit (4 * a.a + a.b / 64) in
+    let unmarked = free a.marks.now a.a a.b c.if-word-b-eq1.false in
+    rw (word_weight (a.b % 64) (omega arith)) (mark_more a.marks.now a.a a.b c.requires.0 c.requires.1 c.requires.2 (omega (arith, fits)) unmarked)

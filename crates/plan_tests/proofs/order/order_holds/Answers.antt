@@ -12,19 +12,14 @@ use Rattle.plan_tests.specs.Tests.{columns_in_order}
 use Rattle.plan_tests.specs.Crossed.{CrossedColumns}
 use Rattle.plan_tests.proofs.OrderedLinks.{NextOpen, opens_one, opens_no, crossed_more, in_order_from, ColumnFound, column_found, ends_inside, all_seen}
 use Rattle.plan_tests.proofs.order.order_holds.Goals as goal
+use Rattle.plan_tests.proofs.order.order_holds.Goals.{After-only_column-j, then-j-opened, else-j-opened}
 
 -- what is known of link i, where its column is found
-module _ (c : tie.After-only-column invariant-loop decreases-loop) where
-  abbrev start : tie.Start invariant-loop decreases-loop
-  start = c
-
-  abbrev loop : tie.At-loop invariant-loop decreases-loop
-  loop = c
-
-  found : ColumnFound start.args.plan.now start.args.k loop.loop.i c.only_column-j.result
+module _ (c : After-only_column-j) where
+  found : ColumnFound c.args.plan.now c.args.k c.loop-i.i c.only_column-j.result
   found =
-      let z = start.args in
-      column_found z.plan.now z.n z.m z.k start.pre.1 loop.loop.i (omega arith) c.first_end-p.result
+      let z = c.args in
+      column_found z.plan.now z.n z.m z.k c.requires.1 c.loop-i.i (omega arith) c.first_end-p.result
       c.second_end-q.result c.only_column-j.result c.first_end-p.ensures.is c.second_end-q.ensures.is
       c.only_column-j.ensures
 
@@ -45,55 +40,57 @@ only_column-j-requires c =
     (c.requires.0, c.requires.1, omega (arith, c.first_end-p.ensures.is, ends), omega (arith, c.second_end-q.ensures.is, ends))
 
 pub shape_of-crossed-then-j-k : goal.shape_of-crossed-then-j-k
-shape_of-crossed-then-j-k c = c.loop-i.invariant.3.long ∙ sym (start c).pre.3
+shape_of-crossed-then-j-k c = c.loop-i.invariant.3.long ∙ sym c.requires.3
 
 pub returns-then-j-k : goal.returns-then-j-k
 returns-then-j-k c =
-    let l = (loop c).loop in
+    let l = c.loop-i in
     record {
-      is = sym (l.inv.2 ∙ (found c).none l.opened c.if-j-k.true);
+      is = sym (l.invariant.2 ∙ (found (goal.at.returns-then-j-k c).After-only_column-j).none l.opened c.if-j-k.true);
       crossed = λ f. true_not_false false f refl;
     }
 
 pub shape_of-crossed-then-opened-j : goal.shape_of-crossed-then-opened-j
-shape_of-crossed-then-opened-j c = (loop c).loop.inv.3.long ∙ sym (start c).pre.3
+shape_of-crossed-then-opened-j c = c.loop-i.invariant.3.long ∙ sym c.requires.3
 
 pub returns-then-opened-j : goal.returns-then-opened-j
 returns-then-opened-j c =
-    let l = (loop c).loop in
+    let l = c.loop-i in
     record {
-      is = sym (l.inv.2 ∙ (found c).late l.opened c.if-j-k.false c.if-opened-j.true);
+      is = sym (l.invariant.2 ∙ (found (goal.at.returns-then-opened-j c).After-only_column-j).late l.opened c.if-j-k.false c.if-opened-j.true);
       crossed = λ f. true_not_false false f refl;
     }
 
 pub overflow_add-opened : goal.overflow_add-opened
-overflow_add-opened c = omega (arith, (start c).pre.1)
+overflow_add-opened c = omega (arith, c.requires.1)
 
 pub overflow_cast-crossed : goal.overflow_cast-crossed
 overflow_cast-crossed c =
-    omega (arith, (start c).requires.1.few_columns, (found c).inside c.if-j-k.false)
+    omega (arith, c.requires.1.few_columns, (found (goal.at.overflow_cast-crossed c).After-only_column-j).inside c.if-j-k.false)
 
 pub bounds-crossed-i : goal.bounds-crossed-i
 bounds-crossed-i c =
-    omega (arith, (start c).requires.1.few_links, (loop c).loop.invariant.3.long)
+    omega (arith, c.requires.1.few_links, c.loop-i.invariant.3.long)
 
 pub overflow_add-i : goal.overflow_add-i
-overflow_add-i c = omega (arith, (start c).pre.1.few_links)
+overflow_add-i c = omega (arith, c.requires.1.few_links)
 
 pub loop-i-preserved : goal.loop-i-preserved
 loop-i-preserved c =
-    let a = (start c).args in
-    let l = (loop c).loop in
+    let a = c.args in
+    let l = c.loop-i in
     let j = c.only_column-j.result in
     let next : NextOpen j l.opened c.if-j-opened.opened =
-    ⊎_elim (λ t. opens_one j l.opened c.if-j-opened.opened t.0.taken t.1)
-    (λ t. opens_no j l.opened c.if-j-opened.opened t.0.left t.1) c.if-j-opened.branch in (
+    elim c.if-j-opened.branch [
+      | then-j-opened w ↦ opens_one j l.opened c.if-j-opened.opened w.if-j-opened.true w.opened-is
+      | else-j-opened w ↦ opens_no j l.opened c.if-j-opened.opened w.if-j-opened.false w.opened-is
+    ] in (
       omega arith,
       omega (arith, next.1),
-      l.inv.2 ∙ (found c).more l.opened c.if-j-k.false (omega (arith, c.if-opened-j.false))
+      l.invariant.2 ∙ (found (goal.at.loop-i-preserved c).After-only_column-j).more l.opened c.if-j-k.false (omega (arith, c.if-opened-j.false))
           ∙ ap (in_order_from a.plan.now a.k (l.i + 1)) (sym next.0),
-      crossed_more a.k (plan_bit a.plan.now) (plan_wiring a.plan.now) l.crossed l.i j (omega (arith, (start c).requires.1.few_links))
-          ((found c).is c.if-j-k.false) l.inv.3,
+      crossed_more a.k (plan_bit a.plan.now) (plan_wiring a.plan.now) l.crossed l.i j (omega (arith, c.requires.1.few_links))
+          ((found (goal.at.loop-i-preserved c).After-only_column-j).is c.if-j-k.false) l.invariant.3,
     )
 
 pub shape_of-crossed : goal.shape_of-crossed

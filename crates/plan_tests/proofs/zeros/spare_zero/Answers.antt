@@ -12,18 +12,18 @@ use Rattle.plan_tests.specs.Tests.{spare_card}
 use Rattle.plan_tests.proofs.Places.{address_counted}
 use Rattle.plan_tests.proofs.ZeroBytes.{spare_whole, low_spare, spare_low, all_spare, one_not_spare}
 use Rattle.plan_tests.proofs.zeros.spare_zero.Goals as goal
+use Rattle.plan_tests.proofs.zeros.spare_zero.Goals.{After-address_start-start}
 
 -- a card's address stands inside the plan, and its last byte is not full
-known : (c : goal.After-address_start-start)
+known : (c : After-address_start-start)
     → (c.address_start-start.result ≡ address_start c.args.plan.now c.loop-c.c)
     × (c.address_start-start.result + c.address_size-size.result ≤ length c.args.plan.now)
     × (c.address_size-size.result ≡ (c.args.k + 7) / 8)
     × (address_size c.args.k ≢ c.args.k / 8)
 known c =
-    let s = c in
     let size = c.address_size-size.ensures.is in
-    let z = s.args in
-    let at = address_counted z.plan.now z.n z.m z.k s.requires c.loop-c.c _ _ (omega arith) size c.address_start-start.ensures.is in
+    let z = c.args in
+    let at = address_counted z.plan.now z.n z.m z.k c.requires c.loop-c.c _ _ (omega arith) size c.address_start-start.ensures.is in
     (at.0, at.1, at.2, λ e. c.if-size-whole.false (size ∙ e))
 
 pub address_size-size-requires : goal.address_size-size-requires
@@ -44,13 +44,13 @@ pub overflow_add-start : goal.overflow_add-start
 overflow_add-start c = omega (arith, known c)
 
 pub bounds-plan-start : goal.bounds-plan-start
-bounds-plan-start c = omega (arith, c.if-size-whole.false, known c)
+bounds-plan-start c = omega (arith, c.if-size-whole.false, known (goal.at.bounds-plan-start c).After-address_start-start)
 
 pub returns-then-weight-plan : goal.returns-then-weight-plan
 returns-then-weight-plan c =
     let a = c.args in
     let byte = c.type_inv.plan (c.address_start-start.result + a.k / 8) in
-    let k = known c in
+    let k = known (goal.at.returns-then-weight-plan c).After-address_start-start in
     one_not_spare a.plan.now a.n a.k c.loop-c.c (omega arith) (λ t.
     omega (
       arith,
@@ -66,7 +66,7 @@ pub loop-c-preserved : goal.loop-c-preserved
 loop-c-preserved c =
     let a = c.args in
     let l = c.loop-c in
-    let k = known c in (
+    let k = known (goal.at.loop-c-preserved c).After-address_start-start in (
       omega arith,
       below_more _ _ l.invariant.1 (low_spare a.plan.now a.n a.k l.c c.address_start-start.result k.0 k.3
           (omega (arith, c.if-weight-plan.false, bit_weight (a.k % 8) (omega arith)))),

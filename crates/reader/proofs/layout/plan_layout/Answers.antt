@@ -9,19 +9,17 @@ use Rattle.reader.proofs.Plan.{layout_head, layout_read}
 use Rattle.reader.proofs.Reading.{layout_refused, layout_passed}
 use borrow.Author.Rules.{rules}
 use Rattle.reader.proofs.layout.plan_layout.Goals as goal
+use Rattle.reader.proofs.layout.plan_layout.Goals.{After-address_start}
 
 -- where the sizes were read, and the length that they give
-module _ (c : tie.After-address-start) where
-  abbrev at-k : tie.After-number-at3
-  at-k = c
-
+module _ (c : After-address_start) where
   abbrev at-m : tie.After-number-at2
-  at-m = at-k.before
+  at-m = c.before
 
   abbrev at_n : tie.After-number-at
   at_n = at-m.before
 
-  counted : c.address_start.result ≡ addresses_start at-m.number-at2.result + at_n.number_at.result * address_size at-k.number-at3.result
+  counted : c.address_start.result ≡ addresses_start at-m.number-at2.result + at_n.number_at.result * address_size c.number_at-k.result
   counted = start_counted _ _ _ _ _ c.address_size.ensures.is c.address_start.ensures.is
 
 pub returns-then-plan-lt6 : goal.returns-then-plan-lt6
@@ -41,22 +39,22 @@ returns-then-k-gt-MOST_COLUMNS c = layout_refused _ _ (λ z. omega (arith, z)) c
 
 pub returns-then-plan-address_start : goal.returns-then-plan-address_start
 returns-then-plan-address_start c =
-    let n = (at_n c).number_at in
-    let m = (at-m c).number-at2 in
-    let k = (at-k c).number-at3 in
+    let n = (at_n (goal.at.returns-then-plan-address_start c).After-address_start).number_at in
+    let m = (at-m (goal.at.returns-then-plan-address_start c).After-address_start).number-at2 in
+    let k = c.number_at-k in
     layout_refused _ _ (λ z.
     let read = layout_read _ _ (record { number = refl; cards = n.ensures.0; links = m.ensures.0; columns = k.ensures.0 }) z in
-    omega (arith, read.long, counted c)) c.no_sizes-then-plan-address_start.ensures
+    omega (arith, read.long, counted (goal.at.returns-then-plan-address_start c).After-address_start)) c.no_sizes-then-plan-address_start.ensures
 
 pub returns : goal.returns
 returns c =
     layout_passed _ _ (record {
-      cards = (at_n c).number_at.ensures.0;
-      links = (at-m c).number-at2.ensures.0;
-      columns = (at-k c).number-at3.ensures.0;
+      cards = (at_n (goal.at.returns c).After-address_start).number_at.ensures.0;
+      links = (at-m (goal.at.returns c).After-address_start).number-at2.ensures.0;
+      columns = c.number_at-k.ensures.0;
       some = omega arith;
       few = omega arith;
       few_links = omega arith;
       few_columns = omega arith;
-      long = omega (arith, counted c);
+      long = omega (arith, counted (goal.at.returns c).After-address_start);
     }) refl
