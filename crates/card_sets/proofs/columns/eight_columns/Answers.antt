@@ -1,15 +1,16 @@
 -- The words hold the cards from the eight with number u on. Assumes nothing.
 use mathlib.Core.Path.{◌≡◌, ◌∙◌}
-use Prim.Native.Nat.{◌≤◌, ◌<◌}
+use Prim.Native.Nat.{ℕ, ◌≤◌, ◌<◌}
 use native.Mathlib.Omega.{arith}
+use Rattle.rack.specs.Limits.{most_columns}
 use Rattle.rack.specs.PlanFile.{plan_bit, address_size}
 use Rattle.rack.proofs.PlanFile.{address_size_is}
 use Rattle.card_sets.proofs.EightColumns.{plan_fits, card_inside, column_byte, EightFrom, eight_none, eight_room, eight_next, eight_all}
 use Rattle.card_sets.proofs.columns.eight_columns.Goals as goal
 
 -- the place of the words
-few : (s : goal.Start) → s.args.b < 32
-few s = omega (arith, s.requires.2, address_size_is s.args.k, s.requires.1.few_columns)
+few : (k b : ℕ) → b < address_size k → k ≤ most_columns → b < 32
+few k b h f = omega (arith, address_size_is k)
 
 pub address_size-size-requires : goal.address_size-size-requires
 address_size-size-requires c = c.requires.1.few_columns
@@ -33,7 +34,7 @@ address_start-start-requires c =
     (c.requires.1.few_links, c.address_size-size.ensures.few, omega (arith, c.requires.3))
 
 pub overflow_add-start : goal.overflow_add-start
-overflow_add-start c = omega (arith, c.address_start-start.ensures.inside, few c)
+overflow_add-start c = omega (arith, c.address_start-start.ensures.inside, few c.args.k c.args.b c.requires.2 c.requires.1.few_columns)
 
 pub eight_cards-word-requires : goal.eight_cards-word-requires
 eight_cards-word-requires c =
@@ -46,18 +47,18 @@ eight_cards-word-requires c =
     )
 
 pub overflow_mul-b : goal.overflow_mul-b
-overflow_mul-b c = omega (arith, few c)
+overflow_mul-b c = omega (arith, few c.args.k c.args.b c.requires.2 c.requires.1.few_columns)
 
 pub overflow_add-b : goal.overflow_add-b
 overflow_add-b c =
-    omega (arith, few c, c.requires.3)
+    omega (arith, few c.args.k c.args.b c.requires.2 c.requires.1.few_columns, c.requires.3)
 
 pub put_bytes-requires : goal.put_bytes-requires
 put_bytes-requires c =
     let a = c.args in
     let l = c.loop-u in (
       l.invariant.1.long ∙ c.requires.4,
-      omega (arith, few c, c.requires.3),
+      omega (arith, few c.args.k c.args.b c.requires.2 c.requires.1.few_columns, c.requires.3),
       eight_room a.n (plan_bit a.plan.now) a.b a.t a.columns.now l.columns l.u (omega arith) l.invariant.1,
     )
 
