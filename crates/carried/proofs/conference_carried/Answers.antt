@@ -9,4 +9,8 @@ conference_sized-requires c = let read = c.read_with_total.ensures in λ e. (tot
 pub returns : goal.returns
 returns c =
     let seen = c.carried_bytes-plan.ensures in
-    rw (c.read_with_total.ensures.says.number, seen.bytes) at c.conference_sized.ensures
+    let holds = rw (c.read_with_total.ensures.says.number, seen.bytes) at c.conference_sized.ensures in
+    record {
+      says = holds.0;
+      promise = holds.1;
+    }

@@ -10,4 +10,9 @@ conference_sized-requires c =
     λ e. (read_laid_out _ 0 _ read.says e, read.promise e)
 
 pub returns : goal.returns
-returns c = rw (read_refusal _ _ _ _ _ c.read_plan.ensures.says) at c.conference_sized.ensures
+returns c =
+    let holds = rw (read_refusal _ _ _ _ _ c.read_plan.ensures.says) at c.conference_sized.ensures in
+    record {
+      says = holds.0;
+      promise = holds.1;
+    }

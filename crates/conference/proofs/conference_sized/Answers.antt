@@ -8,8 +8,12 @@ use Rattle.conference.proofs.conference_sized.Goals as goal
 pub returns-then-number-ne0 : goal.returns-then-number-ne0
 returns-then-number-ne0 c =
     let known = c.requires in
-    with_promise _ _ _ _ _ (λ e. (known e).1) _
-    (says_refused _ _ _ _ _ known _ c.three_refusal-number.ensures _ (λ e. omega arith) c.no_card.ensures)
+    let holds = with_promise _ _ _ _ _ (λ e. (known e).1) _
+    (says_refused _ _ _ _ _ known _ c.three_refusal-number.ensures _ (λ e. omega arith) c.no_card.ensures) in
+    record {
+      says = holds.0;
+      promise = holds.1;
+    }
 
 pub lowest_median-card-requires : goal.lowest_median-card-requires
 lowest_median-card-requires c =
@@ -27,12 +31,20 @@ lowest_median-card-requires c =
 pub returns-then-sizes-card : goal.returns-then-sizes-card
 returns-then-sizes-card c =
     let known = c.requires in
-    with_promise _ _ _ _ _ (λ e. (known e).1) _
+    let holds = with_promise _ _ _ _ _ (λ e. (known e).1) _
     (says_none _ _ _ _ _ known _ c.three_refusal-number.ensures (omega arith) _ c.lowest_median-card.ensures _ (omega arith)
-    c.no_card-then-sizes-card.ensures)
+    c.no_card-then-sizes-card.ensures) in
+    record {
+      says = holds.0;
+      promise = holds.1;
+    }
 
 pub returns : goal.returns
 returns c =
     let known = c.requires in
-    with_promise _ _ _ _ _ (λ e. (known e).1) _
-    (says_found _ _ _ _ _ known _ c.three_refusal-number.ensures (omega arith) _ c.lowest_median-card.ensures (omega arith))
+    let holds = with_promise _ _ _ _ _ (λ e. (known e).1) _
+    (says_found _ _ _ _ _ known _ c.three_refusal-number.ensures (omega arith) _ c.lowest_median-card.ensures (omega arith)) in
+    record {
+      says = holds.0;
+      promise = holds.1;
+    }

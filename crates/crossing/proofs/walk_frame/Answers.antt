@@ -8,7 +8,12 @@ use Rattle.crossing.proofs.walk_frame.Goals as goal
 pub returns-then-walked-eq0 : goal.returns-then-walked-eq0
 returns-then-walked-eq0 c =
     let w = c.walk_counted-walked.ensures in
-    (walk_crosses_none _ _ _ _ _ _ _ w.says (omega arith) c.no_column.ensures, w.arrives)
+    let holds = (walk_crosses_none _ _ _ _ _ _ _ w.says (omega arith) c.no_column.ensures, w.arrives) in
+    record {
+      says = holds.0;
+      arrives = holds.1;
+      full = holds.2;
+    }
 
 pub bounds-met-1 : goal.bounds-met-1
 bounds-met-1 c =
@@ -30,4 +35,9 @@ plan_places-places-requires c =
 pub returns : goal.returns
 returns c =
     let w = c.walk_counted-walked.ensures in
-    (walk_crosses_column _ _ _ _ _ _ _ w.says (λ e. omega arith) c.plan_places-places.ensures.first, w.arrives)
+    let holds = (walk_crosses_column _ _ _ _ _ _ _ w.says (λ e. omega arith) c.plan_places-places.ensures.first, w.arrives) in
+    record {
+      says = holds.0;
+      arrives = holds.1;
+      full = holds.2;
+    }

@@ -7,10 +7,20 @@ use Rattle.jolvente.proofs.Returned.{returned_fits}
 use Rattle.jolvente.proofs.jolvente_write_plan.Goals as goal
 
 pub returns-then-plan-ne-LENT_PLAN : goal.returns-then-plan-ne-LENT_PLAN
-returns-then-plan-ne-LENT_PLAN c = with_found _ _ _ _ _ _ (no_plan_room _ _ _ (λ e. omega arith))
+returns-then-plan-ne-LENT_PLAN c =
+    let holds = with_found _ _ _ _ _ _ (no_plan_room _ _ _ (λ e. omega arith)) in
+    record {
+      says = holds.0;
+      found = holds.1;
+    }
 
 pub returns-then-record-ne-LENT_RECORD : goal.returns-then-record-ne-LENT_RECORD
-returns-then-record-ne-LENT_RECORD c = with_found _ _ _ _ _ _ (no_record_room _ _ _ (λ e. omega arith))
+returns-then-record-ne-LENT_RECORD c =
+    let holds = with_found _ _ _ _ _ _ (no_record_room _ _ _ (λ e. omega arith)) in
+    record {
+      says = holds.0;
+      found = holds.1;
+    }
 
 pub overflow_mul-result : goal.overflow_mul-result
 overflow_mul-result c = omega (arith, returned_fits _ _ _ _ c.write_plan-answer.ensures.says.answer)
@@ -20,6 +30,10 @@ overflow_add-result c = omega (arith, returned_fits _ _ _ _ c.write_plan-answer.
 
 pub returns : goal.returns
 returns c =
-    with_found _ _ _ _ _ _
+    let holds = with_found _ _ _ _ _ _
     (plan_said _ _ _ _ _ c.write_plan-answer.result (omega arith) (omega arith) c.write_plan-answer.ensures.says
-    c.put_record.ensures)
+    c.put_record.ensures) in
+    record {
+      says = holds.0;
+      found = holds.1;
+    }

@@ -1,5 +1,4 @@
 -- The loop's invariant: the ones counted are those of the first c cards. Assumes nothing.
--- one card more: its byte is read where the code counts
 use mathlib.Core.Path.{◌≡◌, sym, ap, ◌∙◌}
 use mathlib.Core.List.{List}
 use Prim.Native.Nat.{ℕ, ◌+◌, ◌*◌, ◌-◌, ◌/◌, ◌%◌, ◌^◌, ◌≤◌, ◌<◌}
@@ -14,38 +13,16 @@ use Rattle.plan_totals.proofs.column_ones.Goals as goal
 use Rattle.plan_totals.proofs.column_ones.Goals.{In-loop-c}
 
 -- one card more: its byte is read where the code counts
-module _ (c : In-loop-c) where
-  abbrev at_size : tie.After-address-size invariant-loop decreases-loop
-  at_size = c.before
-
-  abbrev start : tie.Start invariant-loop decreases-loop
-  start = at_size.before.before.before
-
-  abbrev plan : List ℕ
-  plan = start.args.plan.now
-
-  abbrev j : ℕ
-  j = start.args.j
-
-  abbrev card : ℕ
-  card = c.loop-c.c
-
-  abbrev size : ℕ
-  size = at_size.address_size.result
-
-  abbrev first : ℕ
-  first = c.address_start.result + j / 8
-
-  abbrev place : ℕ
-  place = first + card * size
-
-  abbrev byte : ℕ
-  byte = get_or plan place 0
-
-  counted : (place < length plan) × (c.loop-c.ones + byte / 2 ^ (j % 8) % 2 ≡ ones_of (plan_bit plan) (card + 1) j)
-  counted =
-      ones_more plan start.args.sizes start.requires.0 j size first start.requires.1 at_size.address_size.ensures.0
-      (ap (λ (x : ℕ). x + j / 8) c.address_start.ensures.0) card c.loop-c.ones (omega arith) c.loop-c.invariant.1
+counted : (c : In-loop-c) →
+    let plan = c.args.plan.now in
+    let j = c.args.j in
+    let place = c.address_start.result + j / 8 + c.loop-c.c * c.address_size.result in
+    (place < length plan) × (c.loop-c.ones + get_or plan place 0 / 2 ^ (j % 8) % 2 ≡ ones_of (plan_bit plan) (c.loop-c.c + 1) j)
+counted c =
+    let j = c.args.j in
+    ones_more c.args.plan.now c.args.sizes c.requires.0 j c.address_size.result (c.address_start.result + j / 8) c.requires.1
+    c.address_size.ensures.is (ap (λ (x : ℕ). x + j / 8) c.address_start.ensures.is) c.loop-c.c c.loop-c.ones (omega arith)
+    c.loop-c.invariant.1
 
 pub loop-c-init : goal.loop-c-init
 loop-c-init c = let a = c.args in (omega arith, sym (ones_none (plan_bit a.plan.now) a.j))
@@ -61,11 +38,16 @@ bounds-plan-start c = (counted (goal.at.bounds-plan-start c).In-loop-c).0
 
 pub overflow_cast-ones-in-loop-c : goal.overflow_cast-ones-in-loop-c
 overflow_cast-ones-in-loop-c c =
-    omega (arith, div-le_self (byte (goal.at.overflow_cast-ones-in-loop-c c).In-loop-c) (2 ^ (j (goal.at.overflow_cast-ones-in-loop-c c).In-loop-c % 8)), c.type_inv.plan (place (goal.at.overflow_cast-ones-in-loop-c c).In-loop-c))
+    let place = c.address_start.result + c.args.j / 8 + c.loop-c.c * c.address_size.result in
+    omega (arith, div-le_self (get_or c.args.plan.now place 0) (2 ^ (c.args.j % 8)), c.type_inv.plan place)
 
 pub overflow_add-ones-in-loop-c : goal.overflow_add-ones-in-loop-c
 overflow_add-ones-in-loop-c c =
-    omega (arith, ones_few (plan_bit (plan (goal.at.overflow_add-ones-in-loop-c c).In-loop-c)) (j (goal.at.overflow_add-ones-in-loop-c c).In-loop-c) (card (goal.at.overflow_add-ones-in-loop-c c).In-loop-c + 1) _ (counted (goal.at.overflow_add-ones-in-loop-c c).In-loop-c).1, (start (goal.at.overflow_add-ones-in-loop-c c).In-loop-c).requires.0.few)
+    omega (
+      arith,
+      ones_few (plan_bit c.args.plan.now) c.args.j (c.loop-c.c + 1) _ (counted (goal.at.overflow_add-ones-in-loop-c c).In-loop-c).1,
+      c.requires.0.few,
+    )
 
 pub loop-c-preserved : goal.loop-c-preserved
 loop-c-preserved c = (omega arith, (counted (goal.at.loop-c-preserved c).In-loop-c).1)

@@ -1,5 +1,4 @@
 -- The loop's invariant: the sum is that of the hops to the first c cards. Assumes nothing.
--- one card more
 use mathlib.Core.Path.{◌≡◌, sym, ap, ◌∙◌}
 use Prim.Native.Nat.{ℕ, ◌+◌, ◌*◌, ◌-◌, ◌≤◌}
 use native.Mathlib.Omega.{arith}
@@ -13,25 +12,22 @@ use Rattle.plan_totals.proofs.hops_from.Goals.{After-plan_hamming-sum}
 
 -- one card more
 module _ (c : After-plan_hamming-sum) where
-  abbrev start : tie.Start invariant-loop decreases-loop
-  start = c.before
-
-  added : c.loop-c.sum + c.plan_hamming-sum.result ≡ hops_to (plan_wiring start.args.plan.now) (c.loop-c.c + 1) start.args.card
+  added : c.loop-c.sum + c.plan_hamming-sum.result ≡ hops_to (plan_wiring c.args.plan.now) (c.loop-c.c + 1) c.args.card
   added =
-      let a = start.args in
-      hops_more a.plan.now a.sizes start.requires.0 start.requires.1 a.card start.requires.2 c.loop-c.c c.loop-c.sum
+      let a = c.args in
+      hops_more a.plan.now a.sizes c.requires.0 c.requires.1 a.card c.requires.2 c.loop-c.c c.loop-c.sum
       c.plan_hamming-sum.result (omega arith) c.loop-c.invariant.1 c.plan_hamming-sum.ensures
 
-  few : hops_to (plan_wiring start.args.plan.now) (c.loop-c.c + 1) start.args.card ≤ (c.loop-c.c + 1) * most_cards
+  few : hops_to (plan_wiring c.args.plan.now) (c.loop-c.c + 1) c.args.card ≤ (c.loop-c.c + 1) * most_cards
   few =
-      let a = start.args in
-      hops_few a.plan.now a.sizes start.requires.0 start.requires.1 a.card start.requires.2 (c.loop-c.c + 1) (omega arith)
+      let a = c.args in
+      hops_few a.plan.now a.sizes c.requires.0 c.requires.1 a.card c.requires.2 (c.loop-c.c + 1) (omega arith)
 
 pub loop-c-init : goal.loop-c-init
 loop-c-init c = let a = c.args in (omega arith, sym (hops_none a.plan.now a.card))
 
 pub overflow_add-sum : goal.overflow_add-sum
-overflow_add-sum c = omega (arith, added c, few c, (start c).requires.0.few)
+overflow_add-sum c = omega (arith, added c, few c, c.requires.0.few)
 
 pub loop-c-preserved : goal.loop-c-preserved
 loop-c-preserved c = (omega arith, added c)

@@ -1,5 +1,4 @@
 -- The loop's invariant: the sum is that of the first j columns' products. Assumes nothing.
--- one column more
 use mathlib.Core.Path.{◌≡◌, sym, ap, ◌∙◌}
 use mathlib.Core.Bool.{Bool}
 use Prim.Native.Nat.{ℕ, ◌+◌, ◌*◌, ◌-◌, ◌≤◌}
@@ -14,17 +13,14 @@ use Rattle.plan_totals.proofs.products.Goals.{After-column_ones-ones}
 
 -- one column more
 module _ (c : After-column_ones-ones) where
-  abbrev start : tie.Start invariant-loop decreases-loop
-  start = c.before
-
   abbrev ones : ℕ
   ones = c.column_ones-ones.result
 
   abbrev bits : ℕ → ℕ → Bool
-  bits = plan_bit start.args.plan.now
+  bits = plan_bit c.args.plan.now
 
   abbrev cards : ℕ
-  cards = start.args.sizes.cards
+  cards = c.args.sizes.cards
 
   few_ones : ones ≤ cards
   few_ones = ones_few bits _ cards ones c.column_ones-ones.ensures
@@ -33,7 +29,7 @@ module _ (c : After-column_ones-ones) where
   added = products_more bits cards c.loop-j.j c.loop-j.sum ones c.loop-j.invariant.1 c.column_ones-ones.ensures
 
   few : bit_products bits cards (c.loop-j.j + 1) ≤ (c.loop-j.j + 1) * (most_cards * most_cards)
-  few = products_few bits cards start.requires.few (c.loop-j.j + 1)
+  few = products_few bits cards c.requires.few (c.loop-j.j + 1)
 
 pub loop-j-init : goal.loop-j-init
 loop-j-init c = let a = c.args in (omega arith, sym (products_none (plan_bit a.plan.now) a.sizes.cards))
@@ -42,10 +38,10 @@ pub overflow_sub-sum : goal.overflow_sub-sum
 overflow_sub-sum c = few_ones (goal.at.overflow_sub-sum c).After-column_ones-ones
 
 pub overflow_mul-sum : goal.overflow_mul-sum
-overflow_mul-sum c = omega (arith, added (goal.at.overflow_mul-sum c).After-column_ones-ones, few (goal.at.overflow_mul-sum c).After-column_ones-ones, (start (goal.at.overflow_mul-sum c).After-column_ones-ones).requires.few_columns)
+overflow_mul-sum c = omega (arith, added (goal.at.overflow_mul-sum c).After-column_ones-ones, few (goal.at.overflow_mul-sum c).After-column_ones-ones, c.requires.few_columns)
 
 pub overflow_add-sum : goal.overflow_add-sum
-overflow_add-sum c = omega (arith, added (goal.at.overflow_add-sum c).After-column_ones-ones, few (goal.at.overflow_add-sum c).After-column_ones-ones, (start (goal.at.overflow_add-sum c).After-column_ones-ones).requires.few_columns)
+overflow_add-sum c = omega (arith, added (goal.at.overflow_add-sum c).After-column_ones-ones, few (goal.at.overflow_add-sum c).After-column_ones-ones, c.requires.few_columns)
 
 pub loop-j-preserved : goal.loop-j-preserved
 loop-j-preserved c = (omega arith, added (goal.at.loop-j-preserved c).After-column_ones-ones)

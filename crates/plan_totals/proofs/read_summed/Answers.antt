@@ -5,7 +5,12 @@ use Rattle.plan_totals.proofs.Answers.{summed_refused, summed_answered, summed_m
 use Rattle.plan_totals.proofs.read_summed.Goals as goal
 
 pub returns-then-sizes-ne0 : goal.returns-then-sizes-ne0
-returns-then-sizes-ne0 c = summed_measured _ _ (summed_refused _ _ c.read_plan-sizes.ensures.says c.if-sizes-ne0.true)
+returns-then-sizes-ne0 c =
+    let holds = summed_measured _ _ (summed_refused _ _ c.read_plan-sizes.ensures.says c.if-sizes-ne0.true) in
+    record {
+      says = holds.0;
+      promise = holds.1;
+    }
 
 pub plan_total-requires : goal.plan_total-requires
 plan_total-requires c =
@@ -14,4 +19,8 @@ plan_total-requires c =
 
 pub returns : goal.returns
 returns c =
-    summed_measured _ _ (summed_answered _ _ c.read_plan-sizes.ensures.says c.if-sizes-ne0.false _ c.plan_total.ensures)
+    let holds = summed_measured _ _ (summed_answered _ _ c.read_plan-sizes.ensures.says c.if-sizes-ne0.false _ c.plan_total.ensures) in
+    record {
+      says = holds.0;
+      promise = holds.1;
+    }

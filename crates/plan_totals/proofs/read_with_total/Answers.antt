@@ -7,7 +7,11 @@ use Rattle.plan_totals.proofs.read_with_total.Goals as goal
 
 pub returns-then-sizes-ne0 : goal.returns-then-sizes-ne0
 returns-then-sizes-ne0 c =
-    with_total_measured _ _ _ (with_total_refused _ _ c.read_plan-sizes.ensures.says c.args.total c.if-sizes-ne0.true)
+    let holds = with_total_measured _ _ _ (with_total_refused _ _ c.read_plan-sizes.ensures.says c.args.total c.if-sizes-ne0.true) in
+    record {
+      says = holds.0;
+      promise = holds.1;
+    }
 
 pub plan_total-sum-requires : goal.plan_total-sum-requires
 plan_total-sum-requires c =
@@ -16,12 +20,20 @@ plan_total-sum-requires c =
 
 pub returns-then-total-sum : goal.returns-then-total-sum
 returns-then-total-sum c =
-    with_total_measured _ _ _
+    let holds = with_total_measured _ _ _
     (with_other_total _ _ c.read_plan-sizes.ensures.says c.args.total c.if-sizes-ne0.false
-    c.plan_total-sum.result c.plan_total-sum.ensures _ (λ e. omega arith) c.no_sizes.ensures)
+    c.plan_total-sum.result c.plan_total-sum.ensures _ (λ e. omega arith) c.no_sizes.ensures) in
+    record {
+      says = holds.0;
+      promise = holds.1;
+    }
 
 pub returns : goal.returns
 returns c =
-    with_total_measured _ _ _
+    let holds = with_total_measured _ _ _
     (with_that_total _ _ c.read_plan-sizes.ensures.says c.args.total c.if-sizes-ne0.false
-    c.plan_total-sum.result c.plan_total-sum.ensures (omega arith))
+    c.plan_total-sum.result c.plan_total-sum.ensures (omega arith)) in
+    record {
+      says = holds.0;
+      promise = holds.1;
+    }

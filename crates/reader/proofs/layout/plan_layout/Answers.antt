@@ -1,5 +1,4 @@
 -- Each early return leaves a fact of the layout that fails, and at the end all hold: the answer is 12 or the sizes read. Assumes nothing.
--- where the sizes were read, and the length that they give
 use mathlib.Core.Path.{◌≡◌, refl}
 use Prim.Native.Nat.{◌+◌, ◌*◌}
 use native.Mathlib.Omega.{arith}
@@ -12,15 +11,8 @@ use Rattle.reader.proofs.layout.plan_layout.Goals as goal
 use Rattle.reader.proofs.layout.plan_layout.Goals.{After-address_start}
 
 -- where the sizes were read, and the length that they give
-module _ (c : After-address_start) where
-  abbrev at-m : tie.After-number-at2
-  at-m = c.before
-
-  abbrev at_n : tie.After-number-at
-  at_n = at-m.before
-
-  counted : c.address_start.result ≡ addresses_start at-m.number-at2.result + at_n.number_at.result * address_size c.number_at-k.result
-  counted = start_counted _ _ _ _ _ c.address_size.ensures.is c.address_start.ensures.is
+counted : (c : After-address_start) → c.address_start.result ≡ addresses_start c.number_at-m.result + c.number_at-n.result * address_size c.number_at-k.result
+counted c = start_counted _ _ _ _ _ c.address_size.ensures.is c.address_start.ensures.is
 
 pub returns-then-plan-lt6 : goal.returns-then-plan-lt6
 returns-then-plan-lt6 c = layout_refused _ _ (λ z. omega (arith, layout_head _ z)) c.no_sizes.ensures
@@ -39,19 +31,19 @@ returns-then-k-gt-MOST_COLUMNS c = layout_refused _ _ (λ z. omega (arith, z)) c
 
 pub returns-then-plan-address_start : goal.returns-then-plan-address_start
 returns-then-plan-address_start c =
-    let n = (at_n (goal.at.returns-then-plan-address_start c).After-address_start).number_at in
-    let m = (at-m (goal.at.returns-then-plan-address_start c).After-address_start).number-at2 in
+    let n = c.number_at-n in
+    let m = c.number_at-m in
     let k = c.number_at-k in
     layout_refused _ _ (λ z.
-    let read = layout_read _ _ (record { number = refl; cards = n.ensures.0; links = m.ensures.0; columns = k.ensures.0 }) z in
+    let read = layout_read _ _ (record { number = refl; cards = n.ensures.is; links = m.ensures.is; columns = k.ensures.is }) z in
     omega (arith, read.long, counted (goal.at.returns-then-plan-address_start c).After-address_start)) c.no_sizes-then-plan-address_start.ensures
 
 pub returns : goal.returns
 returns c =
     layout_passed _ _ (record {
-      cards = (at_n (goal.at.returns c).After-address_start).number_at.ensures.0;
-      links = (at-m (goal.at.returns c).After-address_start).number-at2.ensures.0;
-      columns = c.number_at-k.ensures.0;
+      cards = c.number_at-n.ensures.is;
+      links = c.number_at-m.ensures.is;
+      columns = c.number_at-k.ensures.is;
       some = omega arith;
       few = omega arith;
       few_links = omega arith;

@@ -9,4 +9,8 @@ address_sized-requires c = read_laid_out _ 0 _ c.read_plan.ensures.says
 pub returns : goal.returns
 returns c =
     let e = read_refusal _ c.args.card _ c.read_plan.ensures.says in
-    rw e at c.address_sized.ensures
+    let holds = rw e at c.address_sized.ensures in
+    record {
+      part = holds.0;
+      refusal = holds.1;
+    }

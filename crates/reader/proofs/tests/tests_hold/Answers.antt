@@ -13,19 +13,6 @@ use Rattle.plan_tests.specs.Tests.{first_zero, spare_zero}
 use Rattle.reader.proofs.Tested.{sized_columns, not_links, not_spare, not_zero, not_ordered, as_covered}
 use Rattle.reader.proofs.tests.tests_hold.Goals as goal
 
--- the tests that passed
-abbrev start : goal.Else-not-links_hold → goal.Start
-start e = e.before.before.before.before.before
-
-links-passed : (e : goal.Else-not-links_hold) → let a = (start e).args in eqb (links_refusal (plan_wiring a.plan.now)).number 0 ≡ true
-links-passed e = sym e.before.before.links-hold.ensures ∙ e.if1.false
-
-spare-passed : (e : goal.Else-not-spare_zero) → let a = (start e.before.before).args in spare_zero a.n a.k (plan_bit a.plan.now) ≡ true
-spare-passed e = sym e.before.spare_zero.ensures ∙ e.if2.false
-
-zero-passed : (e : goal.Else-not-first_zero) → let a = (start e.before.before.before.before).args in first_zero a.k (plan_bit a.plan.now) ≡ true
-zero-passed e = sym e.before.first_zero.ensures ∙ e.if3.false
-
 pub links_hold-requires : goal.links_hold-requires
 links_hold-requires c = (sized_columns _ _ _ _ c.requires, refl)
 
@@ -34,30 +21,30 @@ returns-then-not-links_hold c =
     not_links _ _ _ _ c.requires (sym c.links_hold.ensures ∙ c.if-not-links_hold.true)
 
 pub returns-then-not-spare_zero : goal.returns-then-not-spare_zero
-returns-then-not-spare_zero c = not_spare _ _ _ _ (start c).requires (sym c.spare_zero.ensures ∙ c.if-not-spare_zero.true)
+returns-then-not-spare_zero c = not_spare _ _ _ _ c.requires (sym c.spare_zero.ensures ∙ c.if-not-spare_zero.true)
 
 pub first_zero-requires : goal.first_zero-requires
-first_zero-requires c = ((start c).requires, spare-passed c)
+first_zero-requires c = (c.requires, sym c.spare_zero.ensures ∙ c.if-not-spare_zero.false)
 
 pub returns-then-not-first_zero : goal.returns-then-not-first_zero
 returns-then-not-first_zero c =
-    not_zero _ _ _ _ (start c).requires (sym c.first_zero.ensures ∙ c.if-not-first_zero.true)
+    not_zero _ _ _ _ c.requires (sym c.first_zero.ensures ∙ c.if-not-first_zero.true)
 
 pub order_holds-requires : goal.order_holds-requires
 order_holds-requires c =
-    (c.ones_table-ones.ensures.counts, (start c).requires, eqb-true _ 0 (links-passed c), length-replicate {A = ℕ} most_links 0)
+    (c.ones_table-ones.ensures.counts, c.requires, eqb-true _ 0 (sym c.links_hold.ensures ∙ c.if-not-links_hold.false), length-replicate {A = ℕ} most_links 0)
 
 pub returns-then-not-order_holds : goal.returns-then-not-order_holds
 returns-then-not-order_holds c =
-    not_ordered _ _ _ _ (start c).requires (sym c.order_holds.ensures.is ∙ c.if-not-order_holds.true)
+    not_ordered _ _ _ _ c.requires (sym c.order_holds.ensures.is ∙ c.if-not-order_holds.true)
 
 pub cards_covered-requires : goal.cards_covered-requires
 cards_covered-requires c =
     let ordered = c.if-not-order_holds.false in
-    ((start c).requires, eqb-true _ 0 (links-passed c), sym c.order_holds.ensures.is ∙ ordered, c.order_holds.ensures.crossed ordered)
+    (c.requires, eqb-true _ 0 (sym c.links_hold.ensures ∙ c.if-not-links_hold.false), sym c.order_holds.ensures.is ∙ ordered, c.order_holds.ensures.crossed ordered)
 
 pub returns : goal.returns
 returns c =
     c.cards_covered.ensures
-    ∙ as_covered _ _ _ _ (start c).requires (links-passed c) (sym c.order_holds.ensures.is ∙ c.if-not-order_holds.false) (zero-passed c)
-    (spare-passed c)
+    ∙ as_covered _ _ _ _ c.requires (sym c.links_hold.ensures ∙ c.if-not-links_hold.false) (sym c.order_holds.ensures.is ∙ c.if-not-order_holds.false) (sym c.first_zero.ensures ∙ c.if-not-first_zero.false)
+    (sym c.spare_zero.ensures ∙ c.if-not-spare_zero.false)
