@@ -36,13 +36,15 @@ def code_of(line, path):
 
 
 def respelled(name):
-    parts = name.split("-")
+    parts = re.split("[-_]" if name[0].isupper() else "-", name)
     if name[0].isupper():
         return parts[0] + "".join(p[:1].upper() + p[1:] for p in parts[1:])
     return "_".join(parts)
 
 
 def hyphened(word):
+    if re.fullmatch(r"[A-Z][a-z]\w*_[a-z]\w*", word):
+        return True
     return "-" in word and re.fullmatch(r"[^\W\d_][^\s]*-[^\s]*", word) and not word.endswith("-") and ">" not in word and "--" not in word
 
 

@@ -11,7 +11,7 @@ use Rattle.rack.specs.PlanFile.{plan_cards, plan_wiring}
 use Rattle.rack.proofs.Logic.{by_eq, by_lt, or_right}
 use Rattle.reader.specs.Plan.{plan_refusal}
 use Rattle.reader.specs.Promises.{Measured}
-use Rattle.reader.specs.Reading.{Laid_out, ReadSays}
+use Rattle.reader.specs.Reading.{LaidOut, ReadSays}
 use Rattle.reader.specs.declared.layout.Sizes.{Sizes}
 use Rattle.conference.specs.Conference.{conference, three_refusal, conference_refusal, ConferenceIs}
 use Rattle.conference.specs.Callers.{no_card}
@@ -78,7 +78,7 @@ module _ (ps : List ℕ) (a b c : ℕ) where
     read_refusal s = rw s.number refl
 
     -- AS THE CODE goes on from the sizes
-    module _ (known : r.number ≡ 0 → Laid_out ps r × Measured ps) (x : ℕ) (f : x ≡ three_refusal r.number r.cards a b c) where
+    module _ (known : r.number ≡ 0 → LaidOut ps r × Measured ps) (x : ℕ) (f : x ≡ three_refusal r.number r.cards a b c) where
       refusal_counted : x ≡ refusal
       refusal_counted =
           by_eq r.number 0
@@ -92,7 +92,7 @@ module _ (ps : List ℕ) (a b c : ℕ) where
         inside : (r.number ≡ 0) × (a < n) × (b < n) × (c < n)
         inside = clear_inside r.number n a b c (sym refusal_counted ∙ e)
 
-        pub laid_out : Laid_out ps r
+        pub laid_out : LaidOut ps r
         laid_out = (known inside.0).0
 
         pub measured : Measured ps

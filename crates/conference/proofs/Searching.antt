@@ -13,7 +13,7 @@ use Rattle.rack.proofs.Hops.{hops_sym}
 use Rattle.rack.proofs.Tables.{lowest_is}
 use Rattle.rack.proofs.WiringFile.{wiring_at_cards}
 use Rattle.reader.specs.Promises.{Measured}
-use Rattle.reader.specs.Reading.{Laid_out}
+use Rattle.reader.specs.Reading.{LaidOut}
 use Rattle.reader.specs.declared.layout.Sizes.{Sizes}
 use Rattle.reader.proofs.Addresses.{hamming_columns}
 use Rattle.conference.specs.Conference.{between, median, conference}
@@ -24,7 +24,7 @@ use Rattle.conference.specs.declared.Callers.{Callers}
 abbrev pub NoneBefore : List ℕ → (a b c x : ℕ) → Type 0
 NoneBefore ps a b c x = (j : ℕ) → j < x → median (plan_wiring ps) a b c j ≡ false
 
-module _ (ps : List ℕ) (r : Sizes) (l : Laid_out ps r) where
+module _ (ps : List ℕ) (r : Sizes) (l : LaidOut ps r) where
   pub places_few : (a b : ℕ) → plan_hamming ps a b ≤ most_columns
   places_few a b = omega (arith, hamming_columns ps a b, l.columns, l.few_columns)
 

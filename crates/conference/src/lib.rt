@@ -5,7 +5,7 @@ ghost use Rattle.std.specs.Prelude.{◌≡◌, ◌<◌};
 ghost use Rattle.counting.specs.Ones.{Counts};
 ghost use Rattle.rack.specs.PlanFile.{plan_cards, plan_wiring};
 ghost use Rattle.reader.specs.Promises.{Measured};
-ghost use Rattle.reader.specs.Reading.{Laid_out};
+ghost use Rattle.reader.specs.Reading.{LaidOut};
 ghost use Rattle.conference.specs.Callers.{CallersAre, no_card};
 ghost use Rattle.conference.specs.Conference.{CardOrNone, ConferenceIs, ConferenceSays, conference, median, three_refusal};
 
@@ -35,7 +35,7 @@ struct Callers {
 
 // Whether card `x` is on a shortest path between each two of the three.
 fn is_median(ones: &[u8; 256], plan: &[u8], sizes: Sizes, callers: Callers, x: usize) -> bool
-    requires { Counts ones.now × Laid_out plan.now sizes × CallersAre plan.now callers × (x < sizes.cards) }
+    requires { Counts ones.now × LaidOut plan.now sizes × CallersAre plan.now callers × (x < sizes.cards) }
     ensures { result ≡ median (plan_wiring plan.now) callers.a callers.b callers.c x }
 {
     let from_a = plan_hamming(ones, plan, sizes, callers.a, x);
@@ -52,7 +52,7 @@ fn is_median(ones: &[u8; 256], plan: &[u8], sizes: Sizes, callers: Callers, x: u
 
 // The lowest card that is on a shortest path between each two of three cards; where none is, the number of cards.
 fn lowest_median(ones: &[u8; 256], plan: &[u8], sizes: Sizes, a: usize, b: usize, c: usize) -> u32
-    requires { Counts ones.now × Laid_out plan.now sizes × Measured plan.now × (a < sizes.cards) × (b < sizes.cards) × (c < sizes.cards) }
+    requires { Counts ones.now × LaidOut plan.now sizes × Measured plan.now × (a < sizes.cards) × (b < sizes.cards) × (c < sizes.cards) }
     ensures { result ≡ conference (plan_wiring plan.now) a b c }
 {
     let callers = Callers {
@@ -105,7 +105,7 @@ fn three_refusal(sizes: Sizes, a: u32, b: u32, c: u32) -> u32
 
 // The conference card on a plan that was read with these sizes, or none: the number that comes with them, 14.
 pub fn conference_sized(plan: &[u8], sizes: Sizes, a: u32, b: u32, c: u32) -> Conference
-    requires { sizes.number ≡ 0 → Laid_out plan.now sizes × Measured plan.now }
+    requires { sizes.number ≡ 0 → LaidOut plan.now sizes × Measured plan.now }
     ensures says { ConferenceIs (three_refusal sizes.number (plan_cards plan.now) a b c) plan.now a b c result }
     ensures promise { result.number ≡ 0 → CardOrNone plan.now a b c result }
 {

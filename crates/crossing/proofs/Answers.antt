@@ -11,7 +11,7 @@ use borrow.Author.Tests.{eq-eqb, ne_eqb, lt-ltb, le-ltb}
 use Rattle.rack.proofs.Logic.{by_eq}
 use Rattle.rack.proofs.Refusals.{cond_zero}
 use Rattle.rack.specs.PlanFile.{plan_columns, plan_bit}
-use Rattle.reader.specs.Reading.{LayoutSays, Laid_out}
+use Rattle.reader.specs.Reading.{LayoutSays, LaidOut}
 use Rattle.reader.specs.declared.layout.Sizes.{Sizes}
 use Rattle.reader.proofs.Reading.{says_laid_out}
 use Rattle.forwarder.specs.Forwarding.{step, walk}
@@ -27,7 +27,7 @@ use Rattle.crossing.specs.declared.FrameStep.{FrameStep}
 use Rattle.crossing.specs.declared.FrameWalk.{FrameWalk}
 use Rattle.crossing.specs.declared.places.FirstColumn.{FirstColumn}
 use Rattle.crossing.proofs.Differing.{differing_within}
-use Rattle.crossing.proofs.Crossed.{Goes_on, column_over, column_none, walk_first, hops_go_on, no_hops}
+use Rattle.crossing.proofs.Crossed.{GoesOn, column_over, column_none, walk_first, hops_go_on, no_hops}
 
 -- A COLUMN or none
 module _ (refused j k : ℕ) (r : FirstColumn) where
@@ -59,7 +59,7 @@ module _ (ps : List ℕ) (a b : ℕ) where
 
   -- THE CARDS between which a column is crossed
   pub record Between (s : Sizes) (c : ℕ) : Type 0 where
-    pub sizes : Laid_out ps s
+    pub sizes : LaidOut ps s
     pub from : a < s.cards
     pub far : c < s.cards
 
@@ -124,7 +124,7 @@ module _ (ps : List ℕ) (a b : ℕ) where
           let room = cond_zero (not (eqb (length old) lent_met)) 1 _ (λ z. omega arith) e in
           by_eq (step_refusal ps a b) 0 (λ z. z) (λ n. rw (ne_eqb (step_refusal ps a b) 0 n) at room.1)
 
-      pub answered_goes_on : r.hops ≢ 0 → Goes_on ps a b (walk ps a b)
+      pub answered_goes_on : r.hops ≢ 0 → GoesOn ps a b (walk ps a b)
       answered_goes_on n = hops_go_on ps a b (omega (arith, walk_hops_said (walk_clear n)))
 
       -- the second card met

@@ -44,7 +44,7 @@ module _ (ps : List ℕ) (a b : ℕ) where
   crosses_over h = by_eq (step ps a b).outcome 2 (λ e. e) (λ n. absurd (omega (arith, column_none n)))
 
   -- A WALK whose first step is over a link, and one that ends where it begins
-  pub record Goes_on (v : Walk) : Type 0 where
+  pub record GoesOn (v : Walk) : Type 0 where
     pub over : (step ps a b).outcome ≡ 2
     pub behind : List ℕ
     pub met : v.met ≡ a ∷ (step ps a b).far ∷ behind
@@ -55,7 +55,7 @@ module _ (ps : List ℕ) (a b : ℕ) where
     pub ended : (step ps a b).outcome ≢ 2
     pub met : v.met ≡ a ∷ []
 
-  first_step : (v : Walk) (cs is : List ℕ) → v.met ≡ a ∷ cs → v.taken ≡ is → StepsAlong ps b (a ∷ cs) is → Goes_on v ⊎ Stays v
+  first_step : (v : Walk) (cs is : List ℕ) → v.met ≡ a ∷ cs → v.taken ≡ is → StepsAlong ps b (a ∷ cs) is → GoesOn v ⊎ Stays v
   first_step v [] [] met taken along = inr (record { ended = along; met = met })
   first_step v [] (i ∷ is) met taken along = absurd along
   first_step v (c ∷ cs) [] met taken along = absurd along
@@ -68,10 +68,10 @@ module _ (ps : List ℕ) (a b : ℕ) where
         taken = taken ∙ ap (λ (j : ℕ). j ∷ is) (sym along.1);
       })
 
-  goes_on_or_stays : Goes_on (walk ps a b) ⊎ Stays (walk ps a b)
+  goes_on_or_stays : GoesOn (walk ps a b) ⊎ Stays (walk ps a b)
   goes_on_or_stays = let r = walk_all_runs ps a b in first_step (walk ps a b) r.0 (walk ps a b).taken r.1 refl r.2
 
-  goes_on_hops : Goes_on (walk ps a b) → 1 ≤ walk_hops (walk ps a b)
+  goes_on_hops : GoesOn (walk ps a b) → 1 ≤ walk_hops (walk ps a b)
   unfolding walk_hops
   goes_on_hops g = rw g.met (omega arith)
 
@@ -83,7 +83,7 @@ module _ (ps : List ℕ) (a b : ℕ) where
   unfolding walk_column
   walk_first =
       ⊎_elim
-      (λ (g : Goes_on (walk ps a b)).
+      (λ (g : GoesOn (walk ps a b)).
       rw (ne_eqb (walk_hops (walk ps a b)) 0 (λ e. omega (arith, goes_on_hops g)), g.met) (sym (column_over g.over)))
       (λ (s : Stays (walk ps a b)). rw (eq-eqb (walk_hops (walk ps a b)) 0 (stays_hops s)) (sym (column_none s.ended)))
       goes_on_or_stays
@@ -91,8 +91,8 @@ module _ (ps : List ℕ) (a b : ℕ) where
   pub over_hops : (step ps a b).outcome ≡ 2 → 1 ≤ walk_hops (walk ps a b)
   over_hops e = ⊎_elim goes_on_hops (λ (s : Stays (walk ps a b)). absurd (s.ended e)) goes_on_or_stays
 
-  pub hops_go_on : 1 ≤ walk_hops (walk ps a b) → Goes_on (walk ps a b)
-  hops_go_on h = ⊎_elim (λ (g : Goes_on (walk ps a b)). g) (λ (s : Stays (walk ps a b)). absurd (omega (arith, stays_hops s))) goes_on_or_stays
+  pub hops_go_on : 1 ≤ walk_hops (walk ps a b) → GoesOn (walk ps a b)
+  hops_go_on h = ⊎_elim (λ (g : GoesOn (walk ps a b)). g) (λ (s : Stays (walk ps a b)). absurd (omega (arith, stays_hops s))) goes_on_or_stays
 
   pub no_hops : walk_hops (walk ps a b) ≡ 0 → plan_columns ps ≤ walk_column ps a b
   no_hops e = omega (arith, walk_first, column_none (λ o. omega (arith, over_hops o)))

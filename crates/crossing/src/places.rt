@@ -5,7 +5,7 @@ ghost use Rattle.rack.specs.Limits.{most_cards, most_columns, most_links};
 ghost use Rattle.rack.specs.Lists.{differ, lowest};
 ghost use Rattle.counting.specs.Ones.{Counts};
 ghost use Rattle.rack.specs.PlanFile.{address_size, addresses_start, bit_from};
-ghost use Rattle.reader.specs.Reading.{Laid_out};
+ghost use Rattle.reader.specs.Reading.{LaidOut};
 ghost use Rattle.crossing.specs.Differing.{lowest_differing};
 ghost use Rattle.crossing.specs.Crossing.{DifferingColumn, PlacesAre, no_column};
 
@@ -86,7 +86,7 @@ fn card_start(sizes: Sizes, c: usize) -> usize
 
 // The lowest column in which the addresses of two cards differ.
 fn first_column(plan: &[u8], sizes: Sizes, a: usize, b: usize) -> FirstColumn
-    requires { Laid_out plan.now sizes × (a < sizes.cards) × (b < sizes.cards) }
+    requires { LaidOut plan.now sizes × (a < sizes.cards) × (b < sizes.cards) }
     ensures { DifferingColumn plan.now a b result }
 {
     let k = sizes.columns as usize;
@@ -102,7 +102,7 @@ fn first_column(plan: &[u8], sizes: Sizes, a: usize, b: usize) -> FirstColumn
 
 // The places in which the addresses of two cards differ.
 pub fn plan_places(ones: &[u8; 256], plan: &[u8], sizes: Sizes, a: usize, b: usize) -> Places
-    requires { Counts ones.now × Laid_out plan.now sizes × (a < sizes.cards) × (b < sizes.cards) }
+    requires { Counts ones.now × LaidOut plan.now sizes × (a < sizes.cards) × (b < sizes.cards) }
     ensures { PlacesAre plan.now a b result }
 {
     Places {

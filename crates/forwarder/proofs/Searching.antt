@@ -15,7 +15,7 @@ use Rattle.rack.proofs.Paths.{other_end_below}
 use Rattle.rack.proofs.Logic.{true_not_false, by_bool, by_eq, by_lt, and_left, and_right}
 use Rattle.rack.proofs.WiringFile.{wiring_at_count}
 use Rattle.rack.specs.PlanFile.{plan_cards, plan_wiring, plan_hamming}
-use Rattle.reader.specs.Reading.{Laid_out}
+use Rattle.reader.specs.Reading.{LaidOut}
 use Rattle.reader.specs.declared.layout.Sizes.{Sizes}
 use Rattle.forwarder.specs.Forwarding.{leads_nearer}
 use Rattle.forwarder.specs.Promises.{StepFirst}
@@ -117,7 +117,7 @@ untouched_no_nearer : (ps : List ℕ) (a b : ℕ) (l : Link) → touches a l ≡
 unfolding leads_nearer
 untouched_no_nearer ps a b l t = rw (t, and-false (between ps a b l)) refl
 
-module _ (ps : List ℕ) (s : Sizes) (a b : ℕ) (z : Laid_out ps s) where
+module _ (ps : List ℕ) (s : Sizes) (a b : ℕ) (z : LaidOut ps s) where
   -- link i with its far card c, tested
   module _ (i c left places : ℕ) (e : c ≡ far_card s.cards a (link_at (plan_wiring ps) i)) (f : left ≡ plan_hamming ps a b)
       (n : PlacesNearer ps s.cards c b left places) where

@@ -3,7 +3,7 @@ use Rattle.std.specs.Prelude.{◌≡◌, Bool, true, false, ◌&&◌, cond, List
 use Rattle.rack.specs.Limits.{most_cards}
 use Rattle.rack.specs.Wiring.{Link, link_at, touches, other_end}
 use Rattle.rack.specs.PlanFile.{plan_wiring, plan_hamming}
-use Rattle.reader.specs.Reading.{Laid_out}
+use Rattle.reader.specs.Reading.{LaidOut}
 use Rattle.reader.specs.declared.layout.Sizes.{Sizes}
 use Rattle.forwarder.specs.Forwarding.{step, Walk}
 use Rattle.forwarder.specs.Calls.{step_refusal, StepIs, lent_met, walk_hops, takes}
@@ -63,7 +63,7 @@ pub record Refused (x : ℕ) (r : Stepped) : Type 0 where
 -- 12, 14, or the sizes of a plan that has both cards
 pub record FrameSizes (ps : List ℕ) (a b : ℕ) (r : Sizes) : Type 0 where
   pub number : r.number ≡ step_refusal ps a b
-  pub sizes : r.number ≡ 0 → Laid_out ps r
+  pub sizes : r.number ≡ 0 → LaidOut ps r
   pub from : r.number ≡ 0 → a < r.cards
   pub goal : r.number ≡ 0 → b < r.cards
 

@@ -2,7 +2,7 @@
 ghost use Rattle.std.specs.Prelude.{◌≡◌, ◌+◌, ◌*◌, ◌<◌, ◌≤◌, length};
 ghost use Rattle.rack.specs.Wiring.{link_at, touches};
 ghost use Rattle.rack.specs.PlanFile.{plan_links, plan_wiring};
-ghost use Rattle.reader.specs.Reading.{Laid_out};
+ghost use Rattle.reader.specs.Reading.{LaidOut};
 ghost use Rattle.forwarder.specs.Parts.{PassedOver};
 
 use rack::bytes::{first_end, second_end};
@@ -36,7 +36,7 @@ fn first_of_card(plan: &[u8], m: usize, i: usize, count: usize, a: u16) -> usize
 
 // The first of card `a`'s links from `i` on, or the number of links. They are looked at in eights, for which the compiler needs no loop.
 fn next_of_card(plan: &[u8], sizes: Sizes, i: usize, a: usize) -> usize
-    requires { Laid_out plan.now sizes × (i ≤ sizes.links) × (a < sizes.cards) }
+    requires { LaidOut plan.now sizes × (i ≤ sizes.links) × (a < sizes.cards) }
     ensures { PassedOver plan.now a i sizes.links result }
 {
     let m = sizes.links as usize;
@@ -54,7 +54,7 @@ fn next_of_card(plan: &[u8], sizes: Sizes, i: usize, a: usize) -> usize
 
 // The link to be tested after link `i` with its far card `c`: the next one, or where that is no card the next of card `a`'s.
 pub fn link_after(plan: &[u8], sizes: Sizes, i: usize, a: usize, c: usize) -> usize
-    requires { Laid_out plan.now sizes × (i < sizes.links) × (a < sizes.cards) }
+    requires { LaidOut plan.now sizes × (i < sizes.links) × (a < sizes.cards) }
     ensures { PassedOver plan.now a (i + 1) sizes.links result }
 {
     if c < sizes.cards as usize {

@@ -4,7 +4,7 @@ ghost use Rattle.rack.specs.Columns.{hamming};
 ghost use Rattle.rack.specs.Limits.{most_columns};
 ghost use Rattle.rack.specs.PlanFile.{address_size, bit_from, plan_hamming};
 ghost use Rattle.counting.specs.Ones.{Counts};
-ghost use Rattle.reader.specs.Reading.{Laid_out};
+ghost use Rattle.reader.specs.Reading.{LaidOut};
 ghost use Rattle.forwarder.specs.Parts.{Below};
 
 use counting::places::bits_hamming;
@@ -44,7 +44,7 @@ pub fn places_below(
     b: usize,
     left: u32,
 ) -> u32
-    requires { Counts ones.now × Laid_out plan.now sizes × (a < sizes.cards) × (b < sizes.cards) }
+    requires { Counts ones.now × LaidOut plan.now sizes × (a < sizes.cards) × (b < sizes.cards) }
     ensures { Below left (plan_hamming plan.now a b) result }
 {
     let m = sizes.links as usize;

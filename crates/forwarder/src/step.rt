@@ -3,7 +3,7 @@ ghost use Rattle.std.specs.Prelude.{◌≡◌, ◌<◌};
 ghost use Rattle.counting.specs.Ones.{Counts};
 ghost use Rattle.rack.specs.Wiring.{link_at};
 ghost use Rattle.rack.specs.PlanFile.{plan_hamming, plan_wiring};
-ghost use Rattle.reader.specs.Reading.{Laid_out};
+ghost use Rattle.reader.specs.Reading.{LaidOut};
 ghost use Rattle.forwarder.specs.Calls.{StepSays};
 ghost use Rattle.forwarder.specs.Parts.{far_card, far_end, FrameSizes, NoLink, NoNearer, OnwardIs, PlacesNearer, Refused};
 
@@ -48,7 +48,7 @@ fn far_end(p: usize, q: usize, a: usize, none: usize) -> usize
 
 // The card at the other end of link `i` where it is one of card `a`'s, between two of the cards; else the number of cards.
 fn far_card(plan: &[u8], sizes: Sizes, i: usize, a: usize) -> usize
-    requires { Laid_out plan.now sizes × (i < sizes.links) × (a < sizes.cards) }
+    requires { LaidOut plan.now sizes × (i < sizes.links) × (a < sizes.cards) }
     ensures { result ≡ far_card sizes.cards a (link_at (plan_wiring plan.now) i) }
 {
     let n = sizes.cards as usize;
@@ -71,7 +71,7 @@ fn places_nearer(
     left: u32,
     marks: &mut [bool; MOST_CARDS],
 ) -> u32
-    requires { Counts ones.now × Laid_out plan.now sizes × (b < sizes.cards) × NoNearer plan.now b left marks.old }
+    requires { Counts ones.now × LaidOut plan.now sizes × (b < sizes.cards) × NoNearer plan.now b left marks.old }
     ensures is { PlacesNearer plan.now sizes.cards c b left result }
     ensures holds { NoNearer plan.now b left marks.new }
 {
@@ -110,7 +110,7 @@ pub fn step_between(
     b: usize,
     left: u32,
 ) -> Onward
-    requires { Counts ones.now × Laid_out plan.now sizes × (a < sizes.cards) × (b < sizes.cards) × (left ≡ plan_hamming plan.now a b) }
+    requires { Counts ones.now × LaidOut plan.now sizes × (a < sizes.cards) × (b < sizes.cards) × (left ≡ plan_hamming plan.now a b) }
     ensures { OnwardIs plan.now a b result }
 {
     if a == b {

@@ -3,7 +3,7 @@ ghost use Rattle.std.specs.Prelude.{◌≡◌, ◌<◌, ◌≤◌, length};
 ghost use Rattle.rack.specs.Hops.{hops};
 ghost use Rattle.counting.specs.Ones.{Counts};
 ghost use Rattle.rack.specs.PlanFile.{plan_wiring};
-ghost use Rattle.reader.specs.Reading.{Laid_out};
+ghost use Rattle.reader.specs.Reading.{LaidOut};
 ghost use Rattle.forwarder.specs.Forwarding.{walk};
 ghost use Rattle.forwarder.specs.Calls.{Arrived, CanTake, Frame, Full, WalkSays, lent_met};
 ghost use Rattle.forwarder.specs.Parts.{Counted, RouteIs, Unwalked};
@@ -43,7 +43,7 @@ struct Route {
 
 // Walks from card `a` to card `b`.
 fn walk_between(ones: &[u8; 256], plan: &[u8], sizes: Sizes, a: usize, b: usize) -> Route
-    requires { Counts ones.now × Laid_out plan.now sizes × (a < sizes.cards) × (b < sizes.cards) }
+    requires { Counts ones.now × LaidOut plan.now sizes × (a < sizes.cards) × (b < sizes.cards) }
     ensures { RouteIs (walk plan.now a b) result }
 {
     let mut met = [0u16; LENT_MET];

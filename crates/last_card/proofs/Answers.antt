@@ -13,7 +13,7 @@ use Rattle.rack.specs.PlanFile.{plan_cards, plan_links, plan_wiring}
 use Rattle.rack.proofs.Logic.{by_eq}
 use Rattle.planner.specs.PlanBytes.{plan_bytes}
 use Rattle.reader.specs.Promises.{Measured}
-use Rattle.reader.specs.Reading.{Laid_out, SizesSay}
+use Rattle.reader.specs.Reading.{LaidOut, SizesSay}
 use Rattle.reader.specs.declared.layout.Sizes.{Sizes}
 use Rattle.pendant.specs.Pendant.{without_card, last_hangs}
 use Rattle.totals.specs.Totals.{hops_to, total_hops}
@@ -81,13 +81,13 @@ module _ (ps : List ℕ) (t : ℕ) (s : Sizes) (reads : ReadWithTotalSays ps t s
 
   module _ (c : ℕ) (new : NewPlan) (output output_now : List ℕ)
       (says : NewPlanIs (add_refusal s.number s.cards s.links c) (more_bytes ps c) new output output_now) where
-    add_clear : add_refusal s.number s.cards s.links c ≡ 0 → ReadWith ps t × Laid_out ps s × (s.number ≡ 0) × (c < s.cards)
+    add_clear : add_refusal s.number s.cards s.links c ≡ 0 → ReadWith ps t × LaidOut ps s × (s.number ≡ 0) × (c < s.cards)
     add_clear z =
         let f = clear_fits s.number s.cards s.links c z in
         (read_with f.0, total_laid_out ps t s reads f.0, f.0, f.1)
 
     -- with no refusal the card's hops may be asked for
-    pub add_asks : new.number ≡ 0 → (s.number ≡ 0 → Measured ps) → Laid_out ps s × Measured ps × (c < s.cards) × (t ≤ 16777216)
+    pub add_asks : new.number ≡ 0 → (s.number ≡ 0 → Measured ps) → LaidOut ps s × Measured ps × (c < s.cards) × (t ≤ 16777216)
     add_asks z m = let f = add_clear (not_refused says z) in (f.1, m f.2, f.3, total_few ps s f.1 t f.0.1)
 
     module _ (room : length output ≡ lent_plan) where
@@ -108,14 +108,14 @@ module _ (ps : List ℕ) (t : ℕ) (s : Sizes) (reads : ReadWithTotalSays ps t s
   -- THE LAST CARD LESS
   module _ (new : NewPlan) (output output_now : List ℕ)
       (says : NewPlanIs (off_refusal s.number (last_hangs w)) (fewer_bytes ps) new output output_now) where
-    off_clear : off_refusal s.number (last_hangs w) ≡ 0 → ReadWith ps t × Laid_out ps s × (s.number ≡ 0) × (last_hangs w ≡ true)
+    off_clear : off_refusal s.number (last_hangs w) ≡ 0 → ReadWith ps t × LaidOut ps s × (s.number ≡ 0) × (last_hangs w ≡ true)
     off_clear z =
         let f = clear_hanging s.number (last_hangs w) z in
         (read_with f.0, total_laid_out ps t s reads f.0, f.0, f.1)
 
     -- with no refusal the last card's hops may be asked for, and they are a part of the sum
     module _ (z : new.number ≡ 0) where
-      pub take_off_asks : (s.number ≡ 0 → Measured ps) → Laid_out ps s × Measured ps × (s.cards - 1 < s.cards)
+      pub take_off_asks : (s.number ≡ 0 → Measured ps) → LaidOut ps s × Measured ps × (s.cards - 1 < s.cards)
       take_off_asks m =
           let f = off_clear (not_refused says z) in
           (f.1, m f.2, omega (arith, f.1.some))

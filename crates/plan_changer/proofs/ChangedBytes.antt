@@ -14,13 +14,13 @@ use Rattle.rack.proofs.Appending.{appends_then}
 use Rattle.rack.proofs.Tables.{length_tabulate, length_blocks}
 use Rattle.rack.proofs.WiringFile.{length_two_bytes}
 use Rattle.plan_writer.proofs.WrittenPlan.{head, addresses_room, parts_written, length_parts}
-use Rattle.reader.specs.Reading.{Laid_out}
+use Rattle.reader.specs.Reading.{LaidOut}
 use Rattle.reader.specs.declared.layout.Sizes.{Sizes}
 use Rattle.plan_parts.specs.Parts.{LinksIn, first_ends, second_ends, row_byte, row_with_one}
 use Rattle.plan_changer.specs.Changed.{more_bytes, fewer_bytes}
 use Rattle.plan_parts.proofs.CopiedEnds.{length_first_ends, length_second_ends}
 
-module _ (ps : List ℕ) (s : Sizes) (z : Laid_out ps s) where
+module _ (ps : List ℕ) (s : Sizes) (z : LaidOut ps s) where
   pub links_in : LinksIn ps s.links
   links_in = record { links = z.links; few = z.few_links; long = omega (arith, z.long) }
 

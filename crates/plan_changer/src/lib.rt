@@ -6,7 +6,7 @@ ghost use Rattle.std.specs.Prelude.{◌≡◌, ◌<◌, length, replicate};
 ghost use Rattle.rack.specs.Limits.{lent_plan, most_cards, most_columns, most_links};
 ghost use Rattle.rack.specs.Buffers.{Written};
 ghost use Rattle.rack.specs.PlanFile.{plan_wiring};
-ghost use Rattle.reader.specs.Reading.{Laid_out};
+ghost use Rattle.reader.specs.Reading.{LaidOut};
 ghost use Rattle.pendant.specs.Pendant.{last_hangs};
 ghost use Rattle.plan_changer.specs.Changed.{Known, more_bytes, fewer_bytes};
 ghost use Rattle.plan_changer.specs.Changing.{NewPlanIs, add_refusal, no_plan, off_refusal};
@@ -38,7 +38,7 @@ fn no_plan(number: u32) -> NewPlan
 
 // Writes the plan with a card more on a new last link from `card` into a buffer that is zero at entry; gives its length.
 fn put_more(plan: &[u8], sizes: Sizes, card: usize, output: &mut [u8]) -> usize
-    requires { Laid_out plan.now sizes × (sizes.cards < most_cards) × (sizes.links < most_links) × (sizes.columns < most_columns) × (card < sizes.cards) × (output.old ≡ replicate lent_plan 0) }
+    requires { LaidOut plan.now sizes × (sizes.cards < most_cards) × (sizes.links < most_links) × (sizes.columns < most_columns) × (card < sizes.cards) × (output.old ≡ replicate lent_plan 0) }
     ensures bytes { Written output.new (more_bytes plan.now card) }
     ensures long { result ≡ length (more_bytes plan.now card) }
 {
@@ -55,7 +55,7 @@ fn put_more(plan: &[u8], sizes: Sizes, card: usize, output: &mut [u8]) -> usize
 
 // Writes the plan without its last card, last link and last column into a buffer that is zero at entry; gives its length.
 fn put_fewer(plan: &[u8], sizes: Sizes, output: &mut [u8]) -> usize
-    requires { Laid_out plan.now sizes × (0 < sizes.links) × (0 < sizes.columns) × (output.old ≡ replicate lent_plan 0) }
+    requires { LaidOut plan.now sizes × (0 < sizes.links) × (0 < sizes.columns) × (output.old ≡ replicate lent_plan 0) }
     ensures bytes { Written output.new (fewer_bytes plan.now) }
     ensures long { result ≡ length (fewer_bytes plan.now) }
 {

@@ -16,7 +16,7 @@ use Rattle.rack.specs.PlanFile.{plan_columns, address_size, addresses_start, add
 use Rattle.rack.proofs.Appending.{appended_byte}
 use Rattle.rack.proofs.Logic.{by_eq, by_lt}
 use Rattle.rack.proofs.Tables.{length_tabulate, get_d_tabulate}
-use Rattle.reader.specs.Reading.{Laid_out}
+use Rattle.reader.specs.Reading.{LaidOut}
 use Rattle.reader.specs.declared.layout.Sizes.{Sizes}
 use Rattle.reader.proofs.Addresses.{address_counted}
 use Rattle.reader.proofs.Parts.{length_part}
@@ -68,7 +68,7 @@ pub row_byte_behind : (ps : List ℕ) (a t : ℕ) → address_size (plan_columns
 unfolding row_byte
 row_byte_behind ps a t h = rw (le-ltb t (address_size (plan_columns ps)) h) refl
 
-module _ (ps : List ℕ) (s : Sizes) (z : Laid_out ps s) (a : ℕ) (h : a < s.cards) where
+module _ (ps : List ℕ) (s : Sizes) (z : LaidOut ps s) (a : ℕ) (h : a < s.cards) where
   abbrev size : ℕ
   size = address_size (plan_columns ps)
 

@@ -13,7 +13,7 @@ use Rattle.rack.specs.Wiring.{Link, link_count, link_at, touches}
 use Rattle.rack.specs.PlanFile.{plan_wiring}
 use Rattle.rack.proofs.Tables.{lowest_le}
 use Rattle.rack.proofs.WiringFile.{wiring_at_cards, wiring_at_count}
-use Rattle.reader.specs.Reading.{Laid_out}
+use Rattle.reader.specs.Reading.{LaidOut}
 use Rattle.reader.specs.declared.layout.Sizes.{Sizes}
 use Rattle.pendant.specs.Pendant.{last_hangs}
 
@@ -33,7 +33,7 @@ pub lowest_few : (m i : ℕ) (p : ℕ → Bool) → i ≡ lowest m p → i ≤ m
 lowest_few m i p e = omega (arith, lowest_le m p)
 
 -- the last card hangs on the last link exactly if that link is the lowest that touches it
-pub hangs_counted : (ps : List ℕ) (s : Sizes) → Laid_out ps s → (i : ℕ)
+pub hangs_counted : (ps : List ℕ) (s : Sizes) → LaidOut ps s → (i : ℕ)
     → i ≡ lowest s.links (λ j. touches (s.cards - 1) (link_at (plan_wiring ps) j)) → last_hangs (plan_wiring ps) ≡ eqb (i + 1) s.links
 unfolding last_hangs
 hangs_counted ps s z i e =
@@ -41,7 +41,7 @@ hangs_counted ps s z i e =
     let links : link_count (plan_wiring ps) ≡ s.links = wiring_at_count 6 ps ∙ sym z.links in
     rw (cards, links, e, add-one) refl
 
-pub hangs_linked : (ps : List ℕ) (s : Sizes) → Laid_out ps s → last_hangs (plan_wiring ps) ≡ true → 0 < s.links
+pub hangs_linked : (ps : List ℕ) (s : Sizes) → LaidOut ps s → last_hangs (plan_wiring ps) ≡ true → 0 < s.links
 unfolding last_hangs
 hangs_linked ps s z h =
     let w = plan_wiring ps in

@@ -5,7 +5,7 @@ ghost use Rattle.rack.specs.Lists.{lowest};
 ghost use Rattle.rack.specs.Buffers.{Appends, two_bytes};
 ghost use Rattle.rack.specs.Wiring.{link_at, touches};
 ghost use Rattle.rack.specs.PlanFile.{plan_wiring};
-ghost use Rattle.reader.specs.Reading.{Laid_out};
+ghost use Rattle.reader.specs.Reading.{LaidOut};
 ghost use Rattle.pendant.specs.Pendant.{last_hangs};
 ghost use Rattle.plan_parts.specs.Parts.{LinksIn, first_ends, second_ends};
 
@@ -41,7 +41,7 @@ fn lowest_link(plan: &[u8], m: usize, card: usize) -> usize
 
 // Whether the last link is the only one that touches the last card.
 pub fn last_hangs(plan: &[u8], sizes: Sizes) -> bool
-    requires { Laid_out plan.now sizes }
+    requires { LaidOut plan.now sizes }
     ensures { result ≡ last_hangs (plan_wiring plan.now) }
 {
     let m = sizes.links as usize;

@@ -2,7 +2,7 @@
 ghost use Rattle.std.specs.Prelude.{◌≡◌, cond, ◌≢◌, ◌+◌, ◌*◌, ◌/◌, ◌%◌, ◌^◌, ◌<◌, ◌≤◌, ltb, length, get_or};
 ghost use Rattle.rack.specs.Lists.{tabulate, blocks};
 ghost use Rattle.rack.specs.Buffers.{Appends};
-ghost use Rattle.reader.specs.Reading.{Laid_out};
+ghost use Rattle.reader.specs.Reading.{LaidOut};
 ghost use Rattle.plan_parts.specs.Parts.{row_byte, row_with_one};
 
 use crate::copy::copy_part;
@@ -21,7 +21,7 @@ fn lesser(x: usize, y: usize) -> usize
 
 // Appends the addresses of the first `count` cards, each in `wide` bytes: cut, or with zeros behind it.
 pub fn put_rows(plan: &[u8], sizes: Sizes, count: usize, wide: usize, output: &mut [u8], at: usize)
-    requires { Laid_out plan.now sizes × (count ≤ sizes.cards) × (wide ≤ 32) × (at + count * wide ≤ length output.old) }
+    requires { LaidOut plan.now sizes × (count ≤ sizes.cards) × (wide ≤ 32) × (at + count * wide ≤ length output.old) }
     ensures { Appends at output.old output.new (blocks count (λ a. tabulate wide (row_byte plan.now a))) }
 {
     let m = sizes.links as usize;
@@ -54,7 +54,7 @@ fn byte_with_one(plan: &[u8], at: usize, used: usize) -> u8
 
 // Appends the address of card `a` with a column more, in which it has 1.
 pub fn put_row_with_one(plan: &[u8], sizes: Sizes, a: usize, output: &mut [u8], at: usize)
-    requires { Laid_out plan.now sizes × (a < sizes.cards) × (at + sizes.columns / 8 < length output.old) }
+    requires { LaidOut plan.now sizes × (a < sizes.cards) × (at + sizes.columns / 8 < length output.old) }
     ensures { Appends at output.old output.new (row_with_one plan.now a) }
 {
     let k = sizes.columns as usize;

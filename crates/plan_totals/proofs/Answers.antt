@@ -8,7 +8,7 @@ use borrow.Author.Tests.{eq-eqb, ne_eqb}
 use Rattle.rack.specs.PlanFile.{plan_wiring}
 use Rattle.reader.specs.Plan.{plan_refusal}
 use Rattle.reader.specs.Promises.{Measured}
-use Rattle.reader.specs.Reading.{Laid_out, ReadSays, SizesSay, no_sizes}
+use Rattle.reader.specs.Reading.{LaidOut, ReadSays, SizesSay, no_sizes}
 use Rattle.reader.specs.declared.layout.Sizes.{Sizes}
 use Rattle.reader.proofs.AddressPart.{read_laid_out}
 use Rattle.reader.proofs.Promises.{read_measured}
@@ -60,7 +60,7 @@ with_total_measured ps t r s = (s, λ e. read_measured ps (total_clear ps t (sym
 pub summed_measured : (ps : List ℕ) (r : Summed) → SummedSays ps r → SummedSays ps r × (r.number ≡ 0 → Measured ps)
 summed_measured ps r s = (s, λ e. read_measured ps (sym s.sizes.number ∙ e))
 
-pub total_laid_out : (ps : List ℕ) (t : ℕ) (s : Sizes) → ReadWithTotalSays ps t s → s.number ≡ 0 → Laid_out ps s
+pub total_laid_out : (ps : List ℕ) (t : ℕ) (s : Sizes) → ReadWithTotalSays ps t s → s.number ≡ 0 → LaidOut ps s
 total_laid_out ps t s z e =
     let f = sym z.number ∙ e in
     read_laid_out ps 0 s (rw (f, ← (total_clear ps t f).0) at z) e

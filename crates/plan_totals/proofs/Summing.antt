@@ -18,7 +18,7 @@ use Rattle.rack.proofs.Tables.{length_tabulate, tabulate_snoc}
 use Rattle.rack.proofs.Sums.{sum_none, sum_last, sum_le}
 use Rattle.rack.proofs.WiringFile.{wiring_at_cards}
 use Rattle.reader.specs.Promises.{Measured}
-use Rattle.reader.specs.Reading.{Laid_out}
+use Rattle.reader.specs.Reading.{LaidOut}
 use Rattle.reader.specs.declared.layout.Sizes.{Sizes}
 use Rattle.reader.proofs.Addresses.{address_counted}
 use Rattle.reader.proofs.Measured.{plan_embedding}
@@ -49,7 +49,7 @@ module _ (bits : ℕ → ℕ → Bool) (j : ℕ) where
   ones_few n ones e = omega (arith, e, count_le_length (λ c. bits c j) (range n), length_tabulate n (λ c. c))
 
 -- one card more: the byte of column j in its address, which the code reads, is inside the plan, and its bit is added
-module _ (ps : List ℕ) (s : Sizes) (z : Laid_out ps s) (j size start : ℕ) (column : j < s.columns) (sized : size ≡ address_size s.columns)
+module _ (ps : List ℕ) (s : Sizes) (z : LaidOut ps s) (j size start : ℕ) (column : j < s.columns) (sized : size ≡ address_size s.columns)
     (starts : start ≡ addresses_start s.links + 0 * size + j / 8) where
   pub ones_more : (c ones : ℕ) → c < s.cards → ones ≡ ones_of (plan_bit ps) c j
       → (start + c * size < length ps) × (ones + get_or ps (start + c * size) 0 / 2 ^ (j % 8) % 2 ≡ ones_of (plan_bit ps) (c + 1) j)
@@ -76,7 +76,7 @@ module _ (bits : ℕ → ℕ → Bool) (n : ℕ) where
   unfolding bit_products
   products_few h k = sum_le k (most_cards * most_cards) (λ j. ones_of bits n j * (n - ones_of bits n j)) (λ j l. product_few h j)
 
-pub products_total : (ps : List ℕ) (s : Sizes) → Laid_out ps s → Measured ps
+pub products_total : (ps : List ℕ) (s : Sizes) → LaidOut ps s → Measured ps
     → bit_products (plan_bit ps) s.cards s.columns ≡ total_hops (plan_wiring ps)
 products_total ps s z m =
     ap₂ (bit_products (plan_bit ps)) (z.cards ∙ sym (wiring_at_cards 6 ps)) z.columns
@@ -87,7 +87,7 @@ pub hops_none : (ps : List ℕ) (a : ℕ) → hops_to (plan_wiring ps) 0 a ≡ 0
 unfolding hops_to
 hops_none ps a = sum_none (hops (plan_wiring ps) a)
 
-module _ (ps : List ℕ) (s : Sizes) (z : Laid_out ps s) (m : Measured ps) (a : ℕ) (inside : a < s.cards) where
+module _ (ps : List ℕ) (s : Sizes) (z : LaidOut ps s) (m : Measured ps) (a : ℕ) (inside : a < s.cards) where
   pub hops_more : (c sum d : ℕ) → c < s.cards → sum ≡ hops_to (plan_wiring ps) c a → d ≡ plan_hamming ps a c
       → sum + d ≡ hops_to (plan_wiring ps) (c + 1) a
   unfolding hops_to

@@ -5,7 +5,7 @@
 ghost use Rattle.std.specs.Prelude.{◌≡◌, ◌<◌};
 ghost use Rattle.rack.specs.PlanFile.{plan_bit, plan_cards, plan_wiring};
 ghost use Rattle.reader.specs.Promises.{Measured};
-ghost use Rattle.reader.specs.Reading.{Laid_out};
+ghost use Rattle.reader.specs.Reading.{LaidOut};
 ghost use Rattle.totals.specs.Totals.{bit_products, hops_to, ones_of, total_hops};
 ghost use Rattle.plan_totals.specs.Summed.{ReadWithTotalSays, SummedSays};
 
@@ -27,7 +27,7 @@ pub struct Summed {
 
 // The cards whose address has a one in column `j`.
 fn column_ones(plan: &[u8], sizes: Sizes, j: usize) -> u32
-    requires { Laid_out plan.now sizes × (j < sizes.columns) }
+    requires { LaidOut plan.now sizes × (j < sizes.columns) }
     ensures { result ≡ ones_of (plan_bit plan.now) sizes.cards j }
 {
     let size = address_size(sizes.columns as usize);
@@ -43,7 +43,7 @@ fn column_ones(plan: &[u8], sizes: Sizes, j: usize) -> u32
 
 // The sum over the columns of ones times zeros.
 fn products(plan: &[u8], sizes: Sizes) -> u32
-    requires { Laid_out plan.now sizes }
+    requires { LaidOut plan.now sizes }
     ensures { result ≡ bit_products (plan_bit plan.now) sizes.cards sizes.columns }
 {
     let mut sum: u32 = 0;
@@ -58,7 +58,7 @@ fn products(plan: &[u8], sizes: Sizes) -> u32
 
 // The sum of hops over all pairs of cards of a plan that was read.
 pub fn plan_total(plan: &[u8], sizes: Sizes) -> u32
-    requires { Laid_out plan.now sizes × Measured plan.now }
+    requires { LaidOut plan.now sizes × Measured plan.now }
     ensures { result ≡ total_hops (plan_wiring plan.now) }
 {
     products(plan, sizes)
@@ -66,7 +66,7 @@ pub fn plan_total(plan: &[u8], sizes: Sizes) -> u32
 
 // The hops from a card to all cards of a plan that was read.
 pub fn hops_from(plan: &[u8], sizes: Sizes, card: usize) -> u32
-    requires { Laid_out plan.now sizes × Measured plan.now × (card < sizes.cards) }
+    requires { LaidOut plan.now sizes × Measured plan.now × (card < sizes.cards) }
     ensures { result ≡ hops_to (plan_wiring plan.now) (plan_cards plan.now) card }
 {
     let ones = ones_table();

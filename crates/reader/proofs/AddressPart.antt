@@ -11,7 +11,7 @@ use borrow.Author.Tests.{eq-eqb, ne_eqb, le-leb, lt-leb}
 use Rattle.rack.specs.PlanFile.{plan_cards, plan_columns, address_size, addresses_start, address_start}
 use Rattle.rack.proofs.Logic.{by_eq, by_lt}
 use Rattle.reader.specs.Plan.{plan_refusal}
-use Rattle.reader.specs.Reading.{SizesSay, ReadSays, Laid_out, PartIs, card_refusal, part_unless, offset_unless, address_refusal}
+use Rattle.reader.specs.Reading.{SizesSay, ReadSays, LaidOut, PartIs, card_refusal, part_unless, offset_unless, address_refusal}
 use Rattle.reader.specs.declared.layout.Sizes.{Sizes}
 use Rattle.reader.proofs.Plan.{layout_facts, layout_read, plan_clear}
 use Rattle.reader.proofs.Addresses.{address_counted}
@@ -65,7 +65,7 @@ module _ (ps : List ℕ) (c : ℕ) (r : Sizes) where
   pub address_refused : r.number ≢ 0 → Handed ps c refusal r.number 0 []
   address_refused d = none_handed ps c refusal r.number d (sym (refused_before r.number (plan_cards ps) c d))
 
-  module _ (e : r.number ≡ 0) (laid : Laid_out ps r) where
+  module _ (e : r.number ≡ 0) (laid : LaidOut ps r) where
     pub address_outside : r.cards ≤ c → Handed ps c refusal 14 0 []
     address_outside h =
         none_handed ps c refusal 14 (λ z. omega arith) (sym (card_outside r.number (plan_cards ps) c e (omega (arith, laid.cards))))
@@ -87,7 +87,7 @@ module _ (ps : List ℕ) (c : ℕ) (r : Sizes) where
 
 -- AS READING answers: the sizes are a layout's, and the number is the plan's
 module _ (ps : List ℕ) (c : ℕ) (r : Sizes) (s : ReadSays ps r) where
-  pub read_laid_out : r.number ≡ 0 → Laid_out ps r
+  pub read_laid_out : r.number ≡ 0 → LaidOut ps r
   read_laid_out e =
       let read : plan_refusal ps ≡ 0 = sym s.number ∙ e in
       let answered : SizesSay ps 0 r = rw read at s in

@@ -9,7 +9,7 @@ use Rattle.rack.specs.Columns.{hamming}
 use Rattle.rack.proofs.Hamming.{hamming_le}
 use Rattle.rack.specs.PlanFile.{plan_columns, bit_from, plan_bit, plan_hamming, address_size, addresses_start, address_start}
 use Rattle.rack.proofs.PlanFile.{address_size_is, start_counted}
-use Rattle.reader.specs.Reading.{Laid_out}
+use Rattle.reader.specs.Reading.{LaidOut}
 use Rattle.reader.specs.declared.layout.Sizes.{Sizes}
 
 module _ (ps : List ℕ) where
@@ -18,7 +18,7 @@ module _ (ps : List ℕ) where
   hamming_columns a b = hamming_le (plan_columns ps) (plan_bit ps a) (plan_bit ps b)
 
   -- where the code counts that the address of card c begins, it does, and it ends inside the plan
-  module _ (s : Sizes) (z : Laid_out ps s) where
+  module _ (s : Sizes) (z : LaidOut ps s) where
     pub address_counted : (c size start : ℕ) → c < s.cards → size ≡ address_size s.columns → start ≡ addresses_start s.links + c * size
         → (start ≡ address_start ps c) × (start + size ≤ length ps) × (size ≡ (s.columns + 7) / 8)
     address_counted c size start h e f =

@@ -21,12 +21,12 @@ use Rattle.planner.specs.PlanBytes.{plan_bytes}
 use Rattle.planner.proofs.PlanBytes.{length_plan, written_cards, written_links, written_columns, written_wiring}
 use Rattle.rack.specs.PlanFile.{plan_cards, plan_links, plan_columns, plan_wiring, address_size, addresses_start}
 use Rattle.reader.specs.Plan.{layout_holds, content_holds, plan_refusal}
-use Rattle.reader.specs.Reading.{Laid_out, SizesSay}
+use Rattle.reader.specs.Reading.{LaidOut, SizesSay}
 use Rattle.reader.specs.declared.layout.Sizes.{Sizes}
 
--- THE LAYOUT: the test holds exactly with the facts of `Laid_out`, at the sizes that the plan has
+-- THE LAYOUT: the test holds exactly with the facts of `LaidOut`, at the sizes that the plan has
 abbrev pub Layout : List ℕ → Type 0
-Layout ps = Laid_out ps (record { number = 0; cards = plan_cards ps; links = plan_links ps; columns = plan_columns ps })
+Layout ps = LaidOut ps (record { number = 0; cards = plan_cards ps; links = plan_links ps; columns = plan_columns ps })
 
 module _ (ps : List ℕ) where
   abbrev layout_length : ℕ
@@ -59,10 +59,10 @@ module _ (ps : List ℕ) where
       (leb-true (plan_columns ps) most_columns (and_right t₄ (leb (plan_columns ps) most_columns) h₅))
       (eqb-true (length ps) layout_length (and_right t₅ long_test h))
 
-  pub layout_head : {s : Sizes} → Laid_out ps s → 6 ≤ length ps
+  pub layout_head : {s : Sizes} → LaidOut ps s → 6 ≤ length ps
   layout_head z = omega (arith, z.long)
 
-  pub facts_layout : {s : Sizes} → Laid_out ps s → layout_holds ps ≡ true
+  pub facts_layout : {s : Sizes} → LaidOut ps s → layout_holds ps ≡ true
   unfolding layout_holds
   facts_layout {s} z =
       rw (
@@ -78,11 +78,11 @@ module _ (ps : List ℕ) where
       ) refl
 
   -- whoever has read the sizes has the same facts of what was read
-  pub layout_read : (s : Sizes) → SizesSay ps 0 s → Layout ps → Laid_out ps s
+  pub layout_read : (s : Sizes) → SizesSay ps 0 s → Layout ps → LaidOut ps s
   layout_read s e z = read s.number s.cards s.links s.columns e.number e.cards e.links e.columns
     where
       read : (x n m k : ℕ) → x ≡ 0 → n ≡ plan_cards ps → m ≡ plan_links ps → k ≡ plan_columns ps
-          → Laid_out ps (record { number = x; cards = n; links = m; columns = k })
+          → LaidOut ps (record { number = x; cards = n; links = m; columns = k })
       read x n m k ex en em ek = rw (ex, en, em, ek) z
 
   -- A PLAN THAT WAS READ

@@ -9,7 +9,7 @@ use borrow.Author.Tests.{ne_eqb}
 use Rattle.rack.proofs.Logic.{by_bool, not_true_false}
 use Rattle.rack.proofs.Refusals.{cond_within}
 use Rattle.reader.specs.Plan.{layout_holds}
-use Rattle.reader.specs.Reading.{Laid_out, SizesSay, no_sizes, layout_refusal, LayoutSays}
+use Rattle.reader.specs.Reading.{LaidOut, SizesSay, no_sizes, layout_refusal, LayoutSays}
 use Rattle.reader.specs.declared.layout.Sizes.{Sizes}
 use Rattle.reader.proofs.Plan.{Layout, layout_facts, facts_layout, layout_read}
 
@@ -33,7 +33,7 @@ module _ (ps : List ℕ) where
   unfolding layout_refusal
   layout_refused r h e = rw (not_true_false (layout_holds ps) (λ t. h (layout_facts ps t))) (no_sizes_say 12 r (λ z. omega arith) e)
 
-  pub layout_passed : (r : Sizes) → Laid_out ps r → r.number ≡ 0 → LayoutSays ps r
+  pub layout_passed : (r : Sizes) → LaidOut ps r → r.number ≡ 0 → LayoutSays ps r
   unfolding layout_refusal
   layout_passed r z e =
       let s : SizesSay ps 0 r = record { number = e; cards = z.cards; links = z.links; columns = z.columns } in
@@ -43,7 +43,7 @@ module _ (ps : List ℕ) where
   pub says_layout : (r : Sizes) → LayoutSays ps r → r.number ≡ 0 → layout_holds ps ≡ true
   says_layout r s e = layout_clear (sym s.number ∙ e)
 
-  pub says_laid_out : (r : Sizes) → LayoutSays ps r → r.number ≡ 0 → Laid_out ps r
+  pub says_laid_out : (r : Sizes) → LayoutSays ps r → r.number ≡ 0 → LaidOut ps r
   unfolding layout_refusal
   says_laid_out r s e = let t = says_layout r s e in layout_read ps r (rw t at s) (layout_facts ps t)
 

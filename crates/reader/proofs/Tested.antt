@@ -17,11 +17,11 @@ use Rattle.plan_tests.specs.Tests.{columns_in_order, cards_covered, first_zero, 
 use Rattle.tested_plans.specs.Promises.{TestsExactly}
 use Rattle.tested_plans.proofs.Promises.{tests_exactly}
 use Rattle.reader.specs.Plan.{content_holds}
-use Rattle.reader.specs.Reading.{Laid_out}
+use Rattle.reader.specs.Reading.{LaidOut}
 use Rattle.reader.specs.declared.layout.Sizes.{Sizes}
 
 -- THE CONTENT
-pub laid_sized : (ps : List ℕ) (s : Sizes) → Laid_out ps s → Sized ps s.cards s.links s.columns
+pub laid_sized : (ps : List ℕ) (s : Sizes) → LaidOut ps s → Sized ps s.cards s.links s.columns
 laid_sized ps s z =
     record {
       cards = z.cards;
@@ -34,7 +34,7 @@ laid_sized ps s z =
       long = z.long;
     }
 
-pub content_tested : (ps : List ℕ) (s : Sizes) → Laid_out ps s → ((i : ℕ) → get_or ps i 0 < 256) → content_holds ps ≡ tests_hold ps
+pub content_tested : (ps : List ℕ) (s : Sizes) → LaidOut ps s → ((i : ℕ) → get_or ps i 0 < 256) → content_holds ps ≡ tests_hold ps
 unfolding content_holds TestsExactly
 content_tested ps s z bytes = tests_exactly ps s.cards s.links s.columns all_bytes (laid_sized ps s z)
   where

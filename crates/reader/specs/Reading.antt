@@ -8,7 +8,7 @@ use Rattle.reader.specs.Plan.{layout_holds, plan_refusal}
 use Rattle.reader.specs.declared.layout.Sizes.{Sizes}
 
 -- the sizes of a plan that passed 12
-pub record Laid_out (ps : List ℕ) (s : Sizes) : Type 0 where
+pub record LaidOut (ps : List ℕ) (s : Sizes) : Type 0 where
   pub cards : s.cards ≡ plan_cards ps
   pub links : s.links ≡ plan_links ps
   pub columns : s.columns ≡ plan_columns ps

@@ -3,7 +3,7 @@ ghost use Rattle.std.specs.Prelude.{◌≡◌};
 ghost use Rattle.rack.specs.PlanFile.{plan_cards};
 ghost use Rattle.reader.specs.Plan.{content_holds};
 ghost use Rattle.reader.specs.Promises.{Measured};
-ghost use Rattle.reader.specs.Reading.{ReadSays, Laid_out, PartIs, card_refusal, AddressSays, address_refusal};
+ghost use Rattle.reader.specs.Reading.{ReadSays, LaidOut, PartIs, card_refusal, AddressSays, address_refusal};
 
 use crate::layout::{Sizes, no_sizes, plan_layout};
 use crate::tests::tests_hold;
@@ -11,7 +11,7 @@ use rack::plan_file::{address_size, address_start};
 
 // Whether a plan has the content that the planner writes for the wiring inside: it passes the tests.
 fn content_holds(plan: &[u8], sizes: Sizes) -> bool
-    requires { Laid_out plan.now sizes }
+    requires { LaidOut plan.now sizes }
     ensures { result ≡ content_holds plan.now }
 {
     tests_hold(
@@ -40,7 +40,7 @@ pub fn read_plan(plan: &[u8]) -> Sizes
 // A card's address in a plan whose sizes are known, as that part of the plan's own bytes; empty with a refusal, whose number goes into
 // `number`: the one that comes with the sizes, or 14.
 pub fn address_sized<'a>(plan: &'a [u8], sizes: Sizes, card: u32, number: &mut u32) -> &'a [u8]
-    requires { sizes.number ≡ 0 → Laid_out plan.now sizes }
+    requires { sizes.number ≡ 0 → LaidOut plan.now sizes }
     ensures part { PartIs (card_refusal sizes.number (plan_cards plan.now) card) plan.now plan.entry.ref_ptr card result }
     ensures refusal { number.new ≡ card_refusal sizes.number (plan_cards plan.now) card }
 {

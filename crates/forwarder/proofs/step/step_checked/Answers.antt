@@ -3,7 +3,7 @@ use native.Mathlib.Omega.{arith}
 use mathlib.Core.Path.{sym, ◌∙◌}
 use Prim.Native.Nat.{◌<◌}
 use Rattle.counting.specs.Ones.{Counts}
-use Rattle.reader.specs.Reading.{Laid_out}
+use Rattle.reader.specs.Reading.{LaidOut}
 use Rattle.forwarder.proofs.Frames.{step_refused, step_answered}
 use borrow.Author.Rules.{rules}
 use Rattle.forwarder.proofs.step.step_checked.Goals as goal
@@ -11,7 +11,7 @@ use Rattle.forwarder.proofs.step.step_checked.Goals.{After-ones_table-ones}
 
 -- what holds of the two cards where nothing is refused
 asked : (c : After-ones_table-ones) → let s = c.frame_sizes-sizes in let z = c.args in
-    Counts c.ones_table-ones.result × Laid_out z.plan.now s.result × (z.from < s.result.cards) × (z.goal < s.result.cards)
+    Counts c.ones_table-ones.result × LaidOut z.plan.now s.result × (z.from < s.result.cards) × (z.goal < s.result.cards)
 asked c =
     let s = c.frame_sizes-sizes in
     (c.ones_table-ones.ensures.counts, s.ensures.sizes (omega arith), s.ensures.from (omega arith), s.ensures.goal (omega arith))
