@@ -14,9 +14,9 @@ loop-c-preserved c =
     let l = c.loop-c in
     let near = c.near_weight-near.ensures in
     let added : c.side_weight.result ≡ one (side_in a.hops.now a.p a.q l.c) * 2 ^ (a.k % 64) =
-        c.side_weight.ensures
-        ∙ side_weight_is a.hops.now a.p a.q l.c _ _ _ near.is (omega (arith, near.most))
-        ∙ weighed (side_in a.hops.now a.p a.q l.c) (a.k % 64) (omega arith) in (
+    c.side_weight.ensures
+    ∙ side_weight_is a.hops.now a.p a.q l.c _ _ _ near.is (omega (arith, near.most))
+    ∙ weighed (side_in a.hops.now a.p a.q l.c) (a.k % 64) (omega arith) in (
       omega arith,
       more_added _ _ _ _ _ _ _ _ l.invariant.1 (omega arith) (omega arith) c.requires.1
           (ap (λ (v : ℕ). get_or l.words (4 * l.c + a.k / 64) 0 + v) added),

@@ -1,11 +1,8 @@
 -- Invariant: the bytes of the word from its first one to before byte t agree, but for byte `at` where one was found. Assumes nothing.
-use mathlib.Core.Path.{◌≡◌, sym, ◌∙◌}
-use mathlib.Core.Logic.{◌≢◌, ⊎_elim}
-use Prim.Native.Nat.{ℕ, ◌+◌, ◌*◌, ◌-◌, ◌/◌, ◌≤◌, ◌<◌}
-use native.Mathlib.Omega.{arith}
-use Rattle.rack.proofs.Logic.{by_eq}
+use mathlib.Core.Path.{◌≡◌}
+use mathlib.Core.Logic.{◌≢◌}
+use Prim.Native.Nat.{ℕ, ◌+◌, ◌*◌, ◌-◌, ◌≤◌, ◌<◌}
 use Rattle.plan_writer.specs.Writing.{word_byte}
-use Rattle.planner.proofs.PairSteps.{word_agree}
 use Rattle.planner.proofs.pairs.byte_apart.Given as goal
 
 abbrev pub invariant-loop-t : goal.invariant-loop-t

@@ -1,12 +1,6 @@
 -- Invariant: a card nearer to card 0 is before each card, whatever links were taken. Assumes nothing.
-use mathlib.Core.Path.{refl}
-use mathlib.Core.Logic.{⊎_elim}
-use Prim.Native.Nat.{◌-◌, ◌≤◌, ◌<◌}
-use native.Mathlib.Omega.{arith}
-use borrow.Author.Rules.{rules}
-use Rattle.survey.proofs.Forms.{formed_cards}
+use Prim.Native.Nat.{◌-◌, ◌≤◌}
 use Rattle.planner.specs.PairSteps.{Before}
-use Rattle.planner.proofs.PairSteps.{zero_before, before_more}
 use Rattle.planner.proofs.pairs.cards_before.Given as goal
 
 abbrev pub invariant-loop-i : goal.invariant-loop-i

@@ -1,13 +1,8 @@
 -- Invariants: the pairs of the cards before `a` follow from those of the cards before these; those of `a` with the cards before `b` too. Assumes nothing.
-use mathlib.Core.Path.{◌≡◌, refl, sym, ◌∙◌}
-use mathlib.Core.Bool.{true, true≢false, false≢true}
+use mathlib.Core.Path.{◌≡◌}
+use mathlib.Core.Bool.{true}
 use Prim.Native.Nat.{ℕ, ◌-◌, ◌≤◌, ◌<◌}
-use native.Mathlib.Omega.{arith}
-use lib.ListN.{get_or}
-use borrow.Author.Count.{below_more}
-use Rattle.survey.proofs.Forms.{formed_cards}
 use Rattle.planner.specs.PairSteps.{Follows, PairsFollow}
-use Rattle.planner.proofs.PairSteps.{measure_all, follow_measure, first_follows, more_follow}
 use Rattle.planner.proofs.pairs.pairs_measure.Given as goal
 
 abbrev pub invariant-loop-b : goal.invariant-loop-b

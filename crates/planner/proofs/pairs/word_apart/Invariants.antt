@@ -1,10 +1,8 @@
 -- Invariant: the words before word t agree, but for word `at` where one was found. Assumes nothing.
 use mathlib.Core.Path.{◌≡◌}
-use mathlib.Core.Logic.{◌≢◌, ⊎_elim}
+use mathlib.Core.Logic.{◌≢◌}
 use Prim.Native.Nat.{ℕ, ◌+◌, ◌*◌, ◌-◌, ◌≤◌, ◌<◌}
-use native.Mathlib.Omega.{arith}
 use lib.ListN.{get_or}
-use Rattle.rack.proofs.Logic.{by_eq}
 use Rattle.planner.proofs.pairs.word_apart.Given as goal
 
 abbrev pub invariant-loop-t : goal.invariant-loop-t
