@@ -3,10 +3,8 @@ use mathlib.Core.Path.{◌≡◌, refl, sym, ap, ◌∙◌}
 use mathlib.Core.Logic.{◌≢◌}
 use mathlib.Core.List.{List}
 use Prim.Native.Nat.{ℕ, zero, suc, ◌+◌, ◌*◌, ◌-◌, ◌/◌, ◌%◌, ◌^◌, ◌<◌}
-use native.Mathlib.Nat.{zero-add}
 use native.Mathlib.Omega.{arith}
-use lib.ListN.{get_or, set, replicate, length-set}
-use lib.Seq.{get_or-set_same, get_or-set_other}
+use lib.ListN.{get_or, replicate}
 use Rattle.rack.specs.Limits.{most_cards}
 use Rattle.rack.specs.Bits.{number_bit}
 use Rattle.rack.specs.Wiring.{Wiring}
@@ -21,7 +19,7 @@ use Rattle.plan_writer.specs.Writing.{word_byte}
 use Rattle.survey.specs.Tables.{cell, HopsIn}
 use Rattle.planner.specs.Words.{word_bit}
 use Rattle.planner.specs.OpenColumns.{words_hamming, PairsMeasure}
-use Rattle.planner.specs.PairSteps.{Measures, Follows, AgreeBut, Before, PairsFollow}
+use Rattle.planner.specs.PairSteps.{Measures, AgreeBut, Before, PairsFollow}
 
 -- BITS OF THE WORDS, byte by byte
 word_bit_byte : (ws : List ℕ) (c j : ℕ) → word_bit ws c j ≡ number_bit (word_byte ws c (j / 8)) (j % 8)
@@ -81,7 +79,7 @@ module _ (ws : List ℕ) (a p t : ℕ) (inside : t < 32) (agree : AgreeBut ws a 
           hamming_ext (248 - 8 * t) (λ j. word_bit ws a (8 * t + (8 + j))) (λ j. word_bit ws b (8 * t + (8 + j))) (λ j. word_bit ws p (8 * t + (8 + j)))
           (λ j. word_bit ws b (8 * t + (8 + j))) (λ j l. bits_agree (8 * t + (8 + j)) (omega arith) (λ e. omega arith)) (λ j l. refl)
 
--- THE CARDS BEFORE: card 0 before all others, and the nearer end of one link more
+-- THE CARDS BEFORE, at first: card 0 before all others
 pub zero_before : (w : Wiring) (n : ℕ) (h back : List ℕ) → w.cards ≡ n → 0 < n → HopsIn w h → back ≡ replicate most_cards 0 → Before h back n
 zero_before w n h back cards some t zeros =
     record {
@@ -95,21 +93,6 @@ zero_before w n h back cards some t zeros =
         by_eq (hops w 0 a) 0
         (λ e. absurd (omega (arith, hops_zero w 0 a (omega (arith, cards)) e)))
         (λ e. omega (arith, t.is 0 0 (omega (arith, cards)) (omega (arith, cards)), hops_self w 0, t.is 0 a (omega (arith, cards)) (omega (arith, cards)), e))
-
-pub before_more : (h back : List ℕ) (n p q : ℕ) → Before h back n → q < most_cards → p < n → get_or h p 0 < get_or h q 0 → Before h (set back q p) n
-before_more h back n p q b hq hp near =
-    record {
-      long = length-set back q p ∙ b.long;
-      inside = λ a l ha. by_eq a q
-          (λ (e : a ≡ q). rw (e, same) hp)
-          (λ e. rw (get_or-set_other back q a p 0 e) (b.inside a l ha));
-      nearer = λ a l ha. by_eq a q
-          (λ (e : a ≡ q). rw (e, same, zero-add p, zero-add q) near)
-          (λ e. rw (get_or-set_other back q a p 0 e) (b.nearer a l ha));
-    }
-  where
-    same : get_or (set back q p) q 0 ≡ p
-    same = get_or-set_same back q p 0 (omega (arith, b.long))
 
 -- ALL PAIRS measure, in both orders and with themselves, if those of a higher and a lower card do
 module _ (w : Wiring) (n : ℕ) (cards : w.cards ≡ n) (ws h : List ℕ) (t : HopsIn w h) where
@@ -142,11 +125,3 @@ module _ (w : Wiring) (n : ℕ) (cards : w.cards ≡ n) (ws h : List ℕ) (t : H
   pub follow_measure : (back : List ℕ) → Before h back n → PairsFollow ws h back n → PairsMeasure ws h n
   follow_measure back f p =
       record { measured = λ a b ha hb. follow_below back f p (cell h 0 a + cell h 0 b + 1) a b ha (omega arith) (omega arith) }
-
--- CARD BY CARD
-pub first_follows : (ws h back : List ℕ) → PairsFollow ws h back 1
-first_follows ws h back = record { follows = λ a b ha hb. absurd (omega arith) }
-
-pub more_follow : (ws h back : List ℕ) (a : ℕ) → PairsFollow ws h back a → ((b : ℕ) → b < a → Follows ws h a (get_or back a 0) b) → PairsFollow ws h back (a + 1)
-more_follow ws h back a p row =
-    record { follows = λ x b hx hb. by_eq x a (λ (e : x ≡ a). rw e (row b (omega arith))) (λ e. p.follows x b (omega arith) hb) }
