@@ -134,7 +134,7 @@ ChangedOpens =
 unfoldable pub OpenedAddressAsBytes : Type 0
 OpenedAddressAsBytes =
     (ps : List ℕ) (at : ℕ × ℕ) (p : Opened) (c : ℕ) (r : Bor (List ℕ)) → OpeningSays ps at p → p.number ≡ 0 →
-    AddressSaysWith (opened_bytes p) p.total p.bytes.ptr c r → AddressSays ps at c r
+    AddressSaysWith (opened_bytes p) p.total p.bytes.ref_ptr c r → AddressSays ps at c r
 
 -- a refused address is empty; 14 is said exactly of bytes that are read, with the sizes in them and their sum, and a card number that is n or
 -- more

@@ -57,7 +57,7 @@ impl<'a> Opened<'a> {
 
     // A card's address, as that part of the plan's own bytes; empty with a refusal, whose number is `address_refusal`.
     pub fn address(self, card: u32) -> &'a [u8]
-        ensures { AddressSaysWith (opened_bytes self.entry) self.entry.total self.entry.bytes.ptr card result }
+        ensures { AddressSaysWith (opened_bytes self.entry) self.entry.total self.entry.bytes.ref_ptr card result }
     {
         address_carried(
             self.bytes,

@@ -49,10 +49,10 @@ module _ (ps : List ℕ) (c x : ℕ) where
 
   -- the number and the slice that are handed out of a plan, so far behind its first byte, with these bytes
   abbrev Handed : (number far : ℕ) (bs : List ℕ) → Type 0
-  Handed number far bs = (at : ℕ × ℕ) (γ : GName) → PartIs x ps at c (record { ref_ptr = (at.0, far + at.1); ghost_name = γ; now = bs }) × (number ≡ x)
+  Handed number far bs = (at : ℕ × ℕ) → PartIs x ps at c (record { ref_ptr = (at.0, far + at.1); now = bs }) × (number ≡ x)
 
   handed : (number far : ℕ) (bs : List ℕ) → far ≡ offset_unless x ps c → bs ≡ part_unless x ps c → number ≡ x → Handed number far bs
-  handed number far bs place bytes e at γ = (record { place = ap (λ (y : ℕ). (at.0, y + at.1)) place; bytes = bytes }, e)
+  handed number far bs place bytes e at = (record { place = ap (λ (y : ℕ). (at.0, y + at.1)) place; bytes = bytes }, e)
 
   none_handed : (number : ℕ) → number ≢ 0 → number ≡ x → Handed number 0 []
   none_handed number d e = let z = refused_part (λ h. d (e ∙ h)) in handed number 0 [] (sym z.0) (sym z.1) e

@@ -16,7 +16,7 @@ put_refused-requires c =
 pub returns-then-plan-ne0 : goal.returns-then-plan-ne0
 returns-then-plan-ne0 c =
     puts_as (sym (listing_refused c.args.file.now c.args.plan c.args.words.now c.requires.0 c.if-plan-ne0.true))
-    c.Put-refused.ensures
+    c.put_refused.ensures
 
 pub number_at-n-requires : goal.number_at-n-requires
 number_at-n-requires c =

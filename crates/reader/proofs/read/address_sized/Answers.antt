@@ -6,7 +6,7 @@ use Rattle.reader.proofs.read.address_sized.Goals as goal
 
 pub returns-then-sizes-ne0 : goal.returns-then-sizes-ne0
 returns-then-sizes-ne0 c =
-    let holds = address_refused c.args.plan.now c.args.card c.args.sizes c.if-sizes-ne0.true c.args.plan.ref_ptr _ in
+    let holds = address_refused c.args.plan.now c.args.card c.args.sizes c.if-sizes-ne0.true c.args.plan.ref_ptr in
     record {
       part = holds.0;
       refusal = holds.1;
@@ -16,7 +16,7 @@ pub returns-then-sizes-card : goal.returns-then-sizes-card
 returns-then-sizes-card c =
     let e = c.if-sizes-ne0.false in
     let holds = address_outside c.args.plan.now c.args.card c.args.sizes e (c.requires e) c.if-sizes-card.true
-    c.args.plan.ptr _ in
+    c.args.plan.ref_ptr in
     record {
       part = holds.0;
       refusal = holds.1;
@@ -35,7 +35,7 @@ pub returns : goal.returns
 returns c =
     let e = c.if-sizes-ne0.false in
     let holds = address_handed c.args.plan.now c.args.card c.args.sizes e (c.requires e) _ _ (omega (arith, c.if-sizes-card.false))
-    c.address_size-size.ensures.is c.address_start-start.ensures.is c.args.plan.ptr _ in
+    c.address_size-size.ensures.is c.address_start-start.ensures.is c.args.plan.ref_ptr in
     record {
       part = holds.0;
       refusal = holds.1;

@@ -11,6 +11,6 @@ returns c =
     let e = read_refusal _ c.args.card _ c.read_plan.ensures.says in
     let holds = rw e at c.address_sized.ensures in
     record {
-      part = holds.0;
-      refusal = holds.1;
+      part = holds.part;
+      refusal = holds.refusal;
     }
