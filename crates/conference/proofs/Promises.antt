@@ -1,5 +1,5 @@
 -- The promises of specs/Promises.antt, proved. Assumes nothing.
-use mathlib.Core.Path.{◌≡◌, refl, sym, ap, ◌∙◌}
+use mathlib.Core.Path.{◌≡◌, refl, sym, ap, ◌∙◌, subst}
 use mathlib.Core.Bool.{true, false}
 use mathlib.Core.Logic.{inl, inr, ⊎_elim}
 use mathlib.Core.List.{List}
@@ -93,7 +93,7 @@ module _ (ps : List ℕ) (measured : Measured ps) (a b c : ℕ) (ha : a < plan_c
           record {
             either = inr is_found;
             inside = λ e. omega (arith, is_lowest);
-            on_all = λ e. rw is_lowest all;
+            on_all = λ e. subst (OnAllThree w a b c) (sym is_lowest) all;
             only = λ e x hx o. only_median x lowest_median hx l (passes x o) lowest_tested ∙ sym is_lowest;
             bits = λ e. rw is_lowest (majority_bits lowest_median l lowest_tested);
             none = ((λ e. absurd (omega (arith, is_found))), λ never. absurd (never lowest_median l all));

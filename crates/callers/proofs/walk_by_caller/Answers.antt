@@ -14,8 +14,8 @@ returns-then-met-ne-LENT_MET c =
     (refused_is _ _ _ _ _ 1 _ _ _ (λ e. omega arith) (no_room _ _ _ _ _ _ (λ e. omega (arith, c.if-met-ne-LENT_MET.true))) c.not_walked.ensures) in
     record {
       says = holds.0;
-      arrives = holds.1;
-      full = holds.2;
+      arrives = holds.1.0;
+      full = holds.1.1;
     }
 
 pub returns-then-fault-ne0 : goal.returns-then-fault-ne0
@@ -26,8 +26,8 @@ returns-then-fault-ne0 c =
     (no_caller _ _ _ _ _ _ (omega (arith, c.if-met-ne-LENT_MET.false)) (λ e. omega (arith, fault)) ∙ sym fault) c.not_walked-then-fault-ne0.ensures) in
     record {
       says = holds.0;
-      arrives = holds.1;
-      full = holds.2;
+      arrives = holds.1.0;
+      full = holds.1.1;
     }
 
 pub tally_of-tally-requires : goal.tally_of-tally-requires
@@ -45,6 +45,6 @@ returns c =
     (sym c.caller_fault-fault.ensures ∙ omega (arith, c.if-fault-ne0.false))) in
     record {
       says = holds.0;
-      arrives = holds.1;
-      full = holds.2;
+      arrives = holds.1.0;
+      full = holds.1.1;
     }

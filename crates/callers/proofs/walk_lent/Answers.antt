@@ -13,8 +13,8 @@ returns-then-met-ne-LENT_MET c =
     (refused_is _ _ _ _ _ 1 _ _ _ (λ e. omega arith) (lent_no_room _ _ _ _ _ (λ e. omega (arith, c.if-met-ne-LENT_MET.true))) c.not_walked.ensures) in
     record {
       says = holds.0;
-      arrives = holds.1;
-      full = holds.2;
+      arrives = holds.1.0;
+      full = holds.1.1;
     }
 
 pub returns-then-sizes-ne0 : goal.returns-then-sizes-ne0
@@ -26,8 +26,8 @@ returns-then-sizes-ne0 c =
     c.not_walked-then-sizes-ne0.ensures) in
     record {
       says = holds.0;
-      arrives = holds.1;
-      full = holds.2;
+      arrives = holds.1.0;
+      full = holds.1.1;
     }
 
 pub returns-then-frame-lt-LEAST_FRAME : goal.returns-then-frame-lt-LEAST_FRAME
@@ -39,8 +39,8 @@ returns-then-frame-lt-LEAST_FRAME c =
     c.not_walked-then-frame-lt-LEAST_FRAME.ensures) in
     record {
       says = holds.0;
-      arrives = holds.1;
-      full = holds.2;
+      arrives = holds.1.0;
+      full = holds.1.1;
     }
 
 pub returns : goal.returns
@@ -52,6 +52,6 @@ returns c =
     c.walk_by_caller.ensures.says) in
     record {
       says = holds.0;
-      arrives = holds.1;
-      full = holds.2;
+      arrives = holds.1.0;
+      full = holds.1.1;
     }

@@ -13,6 +13,6 @@ pub returns : goal.returns
 returns c =
     let holds = rw (read_refusal _ _ _ _ _ c.read_plan.ensures.says) at c.conference_sized.ensures in
     record {
-      says = holds.0;
-      promise = holds.1;
+      says = holds.says;
+      promise = holds.promise;
     }

@@ -11,8 +11,8 @@ returns-then-walked-eq0 c =
     let holds = (walk_crosses_none _ _ _ _ _ _ _ w.says (omega arith) c.no_column.ensures, w.arrives) in
     record {
       says = holds.0;
-      arrives = holds.1;
-      full = holds.2;
+      arrives = holds.1.0;
+      full = holds.1.1;
     }
 
 pub bounds-met-1 : goal.bounds-met-1
@@ -38,6 +38,6 @@ returns c =
     let holds = (walk_crosses_column _ _ _ _ _ _ _ w.says (λ e. omega arith) c.plan_places-places.ensures.first, w.arrives) in
     record {
       says = holds.0;
-      arrives = holds.1;
-      full = holds.2;
+      arrives = holds.1.0;
+      full = holds.1.1;
     }

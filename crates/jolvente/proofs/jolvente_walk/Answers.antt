@@ -13,8 +13,8 @@ returns-then-met-ne-LENT_MET_BYTES c =
     (no_met_room z.plan.now z.from z.goal z.caller z.met.now z.«record».now (λ e. omega arith)) in
     record {
       says = holds.0;
-      arrives = holds.1;
-      full = holds.2;
+      arrives = holds.1.0;
+      full = holds.1.1;
     }
 
 pub returns-then-record-ne-LENT_RECORD : goal.returns-then-record-ne-LENT_RECORD
@@ -24,8 +24,8 @@ returns-then-record-ne-LENT_RECORD c =
     (no_walk_record z.plan.now z.from z.goal z.caller z.met.now z.«record».now (λ e. omega arith)) in
     record {
       says = holds.0;
-      arrives = holds.1;
-      full = holds.2;
+      arrives = holds.1.0;
+      full = holds.1.1;
     }
 
 pub returns-then-fault-ne0 : goal.returns-then-fault-ne0
@@ -36,8 +36,8 @@ returns-then-fault-ne0 c =
     (omega (arith, c.if-record-ne-LENT_RECORD.false)) _ c.caller_fault-fault.ensures (λ e. omega arith)) in
     record {
       says = holds.0;
-      arrives = holds.1;
-      full = holds.2;
+      arrives = holds.1.0;
+      full = holds.1.1;
     }
 
 pub returns-then-w-ne0 : goal.returns-then-w-ne0
@@ -50,8 +50,8 @@ returns-then-w-ne0 c =
     _ c.number32_at.ensures c.number32_at-2.ensures w.result _ _ refl w.ensures.says (λ e. omega arith)) in
     record {
       says = holds.0;
-      arrives = holds.1;
-      full = holds.2;
+      arrives = holds.1.0;
+      full = holds.1.1;
     }
 
 pub returns : goal.returns
@@ -65,6 +65,6 @@ returns c =
     (omega (arith, c.if-w-ne0.false)) _ _ c.put_cards.ensures c.put_record.ensures) in
     record {
       says = holds.0;
-      arrives = holds.1;
-      full = holds.2;
+      arrives = holds.1.0;
+      full = holds.1.1;
     }

@@ -16,12 +16,12 @@ use Rattle.plan_totals.proofs.column_ones.Goals.{In-loop-c}
 counted : (c : In-loop-c) →
     let plan = c.args.plan.now in
     let j = c.args.j in
-    let place = c.address_start.result + j / 8 + c.loop-c.c * c.address_size.result in
+    let place = c.address_start.result + j / 8 + c.loop-c.c * c.address_size-size.result in
     (place < length plan) × (c.loop-c.ones + get_or plan place 0 / 2 ^ (j % 8) % 2 ≡ ones_of (plan_bit plan) (c.loop-c.c + 1) j)
 counted c =
     let j = c.args.j in
-    ones_more c.args.plan.now c.args.sizes c.requires.0 j c.address_size.result (c.address_start.result + j / 8) c.requires.1
-    c.address_size.ensures.is (ap (λ (x : ℕ). x + j / 8) c.address_start.ensures.is) c.loop-c.c c.loop-c.ones (omega arith)
+    ones_more c.args.plan.now c.args.sizes c.requires.0 j c.address_size-size.result (c.address_start.result + j / 8) c.requires.1
+    c.address_size-size.ensures.is (ap (λ (x : ℕ). x + j / 8) c.address_start.ensures.is) c.loop-c.c c.loop-c.ones (omega arith)
     c.loop-c.invariant.1
 
 pub loop-c-init : goal.loop-c-init
@@ -38,7 +38,7 @@ bounds-plan-start c = (counted (goal.at.bounds-plan-start c).In-loop-c).0
 
 pub overflow_cast-ones-in-loop-c : goal.overflow_cast-ones-in-loop-c
 overflow_cast-ones-in-loop-c c =
-    let place = c.address_start.result + c.args.j / 8 + c.loop-c.c * c.address_size.result in
+    let place = c.address_start.result + c.args.j / 8 + c.loop-c.c * c.address_size-size.result in
     omega (arith, div-le_self (get_or c.args.plan.now place 0) (2 ^ (c.args.j % 8)), c.type_inv.plan place)
 
 pub overflow_add-ones-in-loop-c : goal.overflow_add-ones-in-loop-c

@@ -8,20 +8,20 @@ use Rattle.forwarder.proofs.walk.walk_counted.Goals as goal
 
 pub returns-then-met-ne-LENT_MET : goal.returns-then-met-ne-LENT_MET
 returns-then-met-ne-LENT_MET c =
-    let holds = with_arrival _ _ _ _ _ _ _ (says_no_room _ _ _ _ _ _ (λ e. omega arith) c.not_walked.ensures) in
+    let holds = with_arrival c.args.plan.now c.args.from c.args.goal c.args.tally c.not_walked.result c.args.met.now c.args.met.now (says_no_room _ _ _ _ _ _ (λ e. omega arith) c.not_walked.ensures) in
     record {
       says = holds.0;
-      arrives = holds.1;
-      full = holds.2;
+      arrives = holds.1.0;
+      full = holds.1.1;
     }
 
 pub returns-then-sizes-ne0 : goal.returns-then-sizes-ne0
 returns-then-sizes-ne0 c =
-    let holds = with_arrival _ _ _ _ _ _ _ (says_no_frame _ _ _ _ _ _ _ (omega arith) (λ e. omega arith) c.frame_sizes-sizes.ensures.number c.not_walked-then-sizes-ne0.ensures) in
+    let holds = with_arrival c.args.plan.now c.args.from c.args.goal c.args.tally c.not_walked-then-sizes-ne0.result c.args.met.now c.args.met.now (says_no_frame _ _ _ _ _ _ _ (omega arith) (λ e. omega arith) c.frame_sizes-sizes.ensures.number c.not_walked-then-sizes-ne0.ensures) in
     record {
       says = holds.0;
-      arrives = holds.1;
-      full = holds.2;
+      arrives = holds.1.0;
+      full = holds.1.1;
     }
 
 pub walk_between-route-requires : goal.walk_between-route-requires
@@ -31,14 +31,14 @@ walk_between-route-requires c =
 
 pub returns-then-answer-ne0 : goal.returns-then-answer-ne0
 returns-then-answer-ne0 c =
-    let holds = with_arrival _ _ _ _ _ _ _
+    let holds = with_arrival c.args.plan.now c.args.from c.args.goal c.args.tally c.counted-answer.result c.args.met.now c.args.met.now
     (says_full _ _ _ _ _ c.walk_between-route.result _ (omega (arith, c.if-met-ne-LENT_MET.false))
     (sym c.frame_sizes-sizes.ensures.number ∙ omega (arith, c.if-sizes-ne0.false))
     c.walk_between-route.ensures c.counted-answer.ensures (λ e. omega (arith, c.if-answer-ne0.true))) in
     record {
       says = holds.0;
-      arrives = holds.1;
-      full = holds.2;
+      arrives = holds.1.0;
+      full = holds.1.1;
     }
 
 pub copy_cards-requires : goal.copy_cards-requires
@@ -47,13 +47,13 @@ copy_cards-requires c =
 
 pub returns : goal.returns
 returns c =
-    let holds = with_arrival _ _ _ _ _ _ _
+    let holds = with_arrival c.args.plan.now c.args.from c.args.goal c.args.tally c.counted-answer.result c.args.met.now c.copy_cards.new.met
     (says_answered _ _ _ _ _ c.walk_between-route.result _ (omega (arith, c.if-met-ne-LENT_MET.false))
     (sym c.frame_sizes-sizes.ensures.number ∙ omega (arith, c.if-sizes-ne0.false))
     c.walk_between-route.ensures c.counted-answer.ensures _ (omega (arith, c.if-answer-ne0.false))
     c.copy_cards.ensures) in
     record {
       says = holds.0;
-      arrives = holds.1;
-      full = holds.2;
+      arrives = holds.1.0;
+      full = holds.1.1;
     }
