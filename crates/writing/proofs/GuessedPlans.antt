@@ -2,21 +2,18 @@
 -- nothing.
 use mathlib.Core.Path.{◌≡◌, refl, sym, ap, ◌∙◌}
 use mathlib.Core.List.{List, ◌++◌}
-use mathlib.Core.Logic.{◌≢◌}
-use Prim.Native.Nat.{ℕ, suc, ◌+◌, ◌*◌, ◌-◌, ◌≤◌, ◌<◌}
+use Prim.Native.Nat.{ℕ, suc, ◌+◌, ◌*◌, ◌-◌, ◌<◌}
 use native.Mathlib.Omega.{arith}
 use lib.ListN.{length, get_or, take, drop, replicate}
 use lib.Seq.{take-append_seam}
 use Rattle.rack.specs.Lists.{tabulate, blocks}
 use Rattle.rack.specs.Limits.{lent_plan}
-use Rattle.rack.specs.Wiring.{Link, Wiring, link_count}
+use Rattle.rack.specs.Wiring.{Wiring}
 use Rattle.rack.specs.Buffers.{number_at, two_bytes, Written}
-use Rattle.rack.specs.WiringFile.{file_wiring, file_refusal, sizes_fault}
-use Rattle.rack.specs.Formed.{SizesAre}
+use Rattle.rack.specs.WiringFile.{file_wiring, sizes_fault}
 use Rattle.rack.specs.PlanFile.{address_size, plan_wiring}
 use Rattle.rack.proofs.Accepted.{clear_file}
-use Rattle.rack.proofs.Logic.{by_eq}
-use Rattle.rack.proofs.WiringFile.{Fits, length_two_bytes, two_bytes_value, wiring_at_written, wiring_at_cards, wiring_at_count, wiring_at_link}
+use Rattle.rack.proofs.WiringFile.{Fits, two_bytes_value, wiring_at_written, wiring_at_cards, wiring_at_count, wiring_at_link}
 use Rattle.plan_writer.specs.Writing.{word_byte, written_bytes}
 use Rattle.planner.specs.PlanBytes.{plan_bytes}
 use Rattle.planner.proofs.WriteAnswer.{ends_written}
@@ -77,7 +74,3 @@ module _ (bs ws : List ℕ) (k : ℕ) (bytes : (i : ℕ) → get_or bs i 0 < 256
 -- no guess
 pub no_guess : (bs out : List ℕ) → out ≡ replicate lent_plan 0 → GuessSays bs 0 out
 no_guess bs out e = record { none = λ z. e; accepted = λ n. absurd (n refl); is = λ n. absurd (n refl); written = λ n. absurd (n refl) }
-
--- a guessed plan fits the buffer
-pub guess_fits : (bs : List ℕ) (r : ℕ) (out : List ℕ) → GuessSays bs r out → r ≤ length out
-guess_fits bs r out g = by_eq r 0 (λ e. omega arith) (λ n. omega (arith, g.is n, (g.written n).within))

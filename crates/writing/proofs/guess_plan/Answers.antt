@@ -1,6 +1,5 @@
 -- What a guess that is not read leaves is what the next one asks. Assumes nothing.
 use native.Mathlib.Omega.{arith}
-use borrow.Author.Rules.{rules}
 use Rattle.rack.proofs.WiringFile.{sizes_clear}
 use Rattle.survey.proofs.Forms.{sizes_are}
 use Rattle.writing.proofs.guess_plan.Goals as goal

@@ -3,7 +3,6 @@ use mathlib.Core.Path.{sym, ap, ◌∙◌}
 use Prim.Native.Nat.{ℕ}
 use native.Mathlib.Omega.{arith}
 use lib.ListN.{length, replicate, length-replicate}
-use borrow.Author.Rules.{rules}
 use Rattle.rack.specs.Limits.{lent_plan}
 use Rattle.writing.proofs.GuessedPlans.{guess_read, no_guess}
 use Rattle.writing.proofs.guessed_plan.Goals as goal

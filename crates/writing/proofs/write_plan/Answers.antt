@@ -1,12 +1,9 @@
 -- The guessed plan where there is one, else the plan made from hops; what stood in the buffer before does not matter. Assumes nothing.
 use mathlib.Core.Path.{sym, ◌∙◌, ap}
 use Prim.Native.Nat.{ℕ}
-use native.Mathlib.Omega.{arith}
 use lib.ListN.{replicate}
-use borrow.Author.Rules.{rules}
 use Rattle.planner.proofs.WriteAnswer.{write_says_one, write_says_accepted, write_says_over}
 use Rattle.planner.proofs.WritePromise.{plan_found}
-use Rattle.writing.proofs.GuessedPlans.{guess_fits}
 use Rattle.writing.proofs.write_plan.Goals as goal
 
 pub returns-then-output-ne-LENT_PLAN : goal.returns-then-output-ne-LENT_PLAN
@@ -20,10 +17,6 @@ returns-then-output-ne-LENT_PLAN c =
 pub guess_plan-length-requires : goal.guess_plan-length-requires
 guess_plan-length-requires c =
     (sym c.sizes_fault.ensures ∙ c.if-sizes_fault-ne0.false, c.clear_bytes.ensures ∙ ap (λ (k : ℕ). replicate k 0) c.if-output-ne-LENT_PLAN.false)
-
-pub overflow_cast-result : goal.overflow_cast-result
-overflow_cast-result c =
-    record { fits = omega (arith, guess_fits _ _ _ c.guess_plan-length.ensures, c.guess_plan-length.auto.output, c.clear_bytes.auto.bytes, c.if-output-ne-LENT_PLAN.false) }
 
 pub returns-then-length-ne0 : goal.returns-then-length-ne0
 returns-then-length-ne0 c =
