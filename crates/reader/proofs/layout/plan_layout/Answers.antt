@@ -6,7 +6,6 @@ use Rattle.rack.specs.PlanFile.{address_size, addresses_start}
 use Rattle.rack.proofs.PlanFile.{start_counted}
 use Rattle.reader.proofs.Plan.{layout_head, layout_read}
 use Rattle.reader.proofs.Reading.{layout_refused, layout_passed}
-use borrow.Author.Rules.{rules}
 use Rattle.reader.proofs.layout.plan_layout.Goals as goal
 use Rattle.reader.proofs.layout.plan_layout.Goals.{After-address_start}
 

@@ -3,9 +3,8 @@ use native.Mathlib.Omega.{arith}
 use mathlib.Core.Path.{◌≡◌, ◌∙◌}
 use Prim.Native.Nat.{ℕ, ◌+◌, ◌*◌, ◌/◌, ◌≤◌, ◌<◌}
 use lib.ListN.{length}
-use Rattle.rack.specs.PlanFile.{address_size, addresses_start, address_start}
+use Rattle.rack.specs.PlanFile.{addresses_start, address_start}
 use Rattle.reader.proofs.Addresses.{address_counted, plan_hamming_from}
-use borrow.Author.Rules.{rules}
 use Rattle.reader.proofs.places.plan_hamming.Goals as goal
 use Rattle.reader.proofs.places.plan_hamming.Goals.{After-address_start-second}
 

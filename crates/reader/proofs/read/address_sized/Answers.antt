@@ -1,7 +1,6 @@
 -- The address of a card below n lies within the plan. Assumes nothing.
 use native.Mathlib.Omega.{arith}
-use borrow.Author.Rules.{rules}
-use Rattle.reader.proofs.AddressPart.{address_refused, address_outside, address_ends, address_handed}
+use Rattle.reader.proofs.AddressPart.{address_refused, address_outside, address_handed}
 use Rattle.reader.proofs.read.address_sized.Goals as goal
 
 pub returns-then-sizes-ne0 : goal.returns-then-sizes-ne0

@@ -1,5 +1,4 @@
 -- The sizes that reading answers are a layout's, and its number comes before 14. Assumes nothing.
-use borrow.Author.Rules.{rules}
 use Rattle.reader.proofs.AddressPart.{read_laid_out, read_refusal}
 use Rattle.reader.proofs.read.card_address.Goals as goal
 

@@ -1,7 +1,6 @@
 -- The tests hold exactly if the content does. Assumes nothing.
 use mathlib.Core.Path.{sym, ◌∙◌}
 use native.Mathlib.Omega.{arith}
-use borrow.Author.Rules.{rules}
 use Rattle.reader.proofs.Tested.{laid_sized, content_tested}
 use Rattle.reader.proofs.read.content_holds.Goals as goal
 

@@ -1,15 +1,9 @@
 -- Test after test: the first that fails decides, and where four passed the last one does. Assumes nothing.
-use mathlib.Core.Path.{◌≡◌, refl, sym, ◌∙◌}
-use mathlib.Core.Bool.{true}
+use mathlib.Core.Path.{refl, sym, ◌∙◌}
 use Prim.Native.Nat.{ℕ}
-use lib.Dec.{eqb}
 use lib.ListN.{length-replicate}
-use borrow.Author.Rules.{rules}
-use borrow.Author.Tests.{eqb-true, not-true, not-false}
+use borrow.Author.Tests.{eqb-true}
 use Rattle.rack.specs.Limits.{most_links}
-use Rattle.rack.specs.Refusals.{links_refusal}
-use Rattle.rack.specs.PlanFile.{plan_wiring, plan_bit}
-use Rattle.plan_tests.specs.Tests.{first_zero, spare_zero}
 use Rattle.reader.proofs.Tested.{sized_columns, not_links, not_spare, not_zero, not_ordered, as_covered}
 use Rattle.reader.proofs.tests.tests_hold.Goals as goal
 
