@@ -8,11 +8,10 @@ use Rattle.crossing.proofs.walk_frame.Goals as goal
 pub returns-then-walked-eq0 : goal.returns-then-walked-eq0
 returns-then-walked-eq0 c =
     let w = c.walk_counted-walked.ensures in
-    let holds = (walk_crosses_none _ _ _ _ _ _ _ w.says (omega arith) c.no_column.ensures, w.arrives) in
     record {
-      says = holds.0;
-      arrives = holds.1.0;
-      full = holds.1.1;
+      says = walk_crosses_none _ _ _ _ _ _ _ w.says (omega arith) c.no_column.ensures;
+      arrives = w.arrives;
+      full = w.full;
     }
 
 pub bounds-met-1 : goal.bounds-met-1
@@ -35,9 +34,8 @@ plan_places-places-requires c =
 pub returns : goal.returns
 returns c =
     let w = c.walk_counted-walked.ensures in
-    let holds = (walk_crosses_column _ _ _ _ _ _ _ w.says (λ e. omega arith) c.plan_places-places.ensures.first, w.arrives) in
     record {
-      says = holds.0;
-      arrives = holds.1.0;
-      full = holds.1.1;
+      says = walk_crosses_column _ _ _ _ _ _ _ w.says (λ e. omega arith) c.plan_places-places.ensures.first;
+      arrives = w.arrives;
+      full = w.full;
     }

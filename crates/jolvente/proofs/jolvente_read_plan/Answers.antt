@@ -7,7 +7,7 @@ use Rattle.jolvente.proofs.jolvente_read_plan.Goals as goal
 
 pub returns-then-record-ne-LENT_RECORD : goal.returns-then-record-ne-LENT_RECORD
 returns-then-record-ne-LENT_RECORD c =
-    let holds = with_promise _ _ _ _ (no_room _ _ (λ e. omega arith)) in
+    let holds = with_promise _ _ _ _ (no_room c.args.plan.now c.args.«record».now (λ e. omega arith)) in
     record {
       says = holds.0;
       promise = holds.1;

@@ -8,7 +8,7 @@ use Rattle.jolvente.proofs.jolvente_write_plan.Goals as goal
 
 pub returns-then-plan-ne-LENT_PLAN : goal.returns-then-plan-ne-LENT_PLAN
 returns-then-plan-ne-LENT_PLAN c =
-    let holds = with_found _ _ _ _ _ _ (no_plan_room _ _ _ (λ e. omega arith)) in
+    let holds = with_found _ _ _ _ _ _ (no_plan_room c.args.wiring.now c.args.plan.now c.args.«record».now (λ e. omega arith)) in
     record {
       says = holds.0;
       found = holds.1;
@@ -16,7 +16,7 @@ returns-then-plan-ne-LENT_PLAN c =
 
 pub returns-then-record-ne-LENT_RECORD : goal.returns-then-record-ne-LENT_RECORD
 returns-then-record-ne-LENT_RECORD c =
-    let holds = with_found _ _ _ _ _ _ (no_record_room _ _ _ (λ e. omega arith)) in
+    let holds = with_found _ _ _ _ _ _ (no_record_room c.args.wiring.now c.args.plan.now c.args.«record».now (λ e. omega arith)) in
     record {
       says = holds.0;
       found = holds.1;
