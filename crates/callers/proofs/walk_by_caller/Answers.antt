@@ -10,7 +10,8 @@ use Rattle.callers.proofs.walk_by_caller.Goals as goal
 
 pub returns-then-met-ne-LENT_MET : goal.returns-then-met-ne-LENT_MET
 returns-then-met-ne-LENT_MET c =
-    let holds = with_delivery _ _ _ _ _ _ _ _
+    let z = c.args in
+    let holds = with_delivery z.plan.now z.from z.goal z.caller z.traffic c.not_walked.result z.met.now z.met.now
     (refused_is _ _ _ _ _ 1 _ _ _ (λ e. omega arith) (no_room _ _ _ _ _ _ (λ e. omega (arith, c.if-met-ne-LENT_MET.true))) c.not_walked.ensures) in
     record {
       says = holds.0;

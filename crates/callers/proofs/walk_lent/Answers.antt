@@ -9,7 +9,8 @@ use Rattle.callers.proofs.walk_lent.Goals as goal
 
 pub returns-then-met-ne-LENT_MET : goal.returns-then-met-ne-LENT_MET
 returns-then-met-ne-LENT_MET c =
-    let holds = with_lent_delivery _ _ _ _ _ _ _
+    let z = c.args in
+    let holds = with_lent_delivery z.plan.now z.from z.frame.now z.traffic c.not_walked.result z.met.now z.met.now
     (refused_is _ _ _ _ _ 1 _ _ _ (λ e. omega arith) (lent_no_room _ _ _ _ _ (λ e. omega (arith, c.if-met-ne-LENT_MET.true))) c.not_walked.ensures) in
     record {
       says = holds.0;
