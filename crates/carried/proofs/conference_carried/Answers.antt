@@ -11,6 +11,6 @@ returns c =
     let seen = c.carried_bytes-plan.ensures in
     let holds = rw (c.read_with_total.ensures.says.number, seen.bytes) at c.conference_sized.ensures in
     record {
-      says = holds.0;
-      promise = holds.1;
+      says = holds.says;
+      promise = holds.promise;
     }

@@ -4,4 +4,4 @@ use Rattle.carried.proofs.read_carried.Goals as goal
 
 pub returns : goal.returns
 returns c =
-    let e = rw c.carried_bytes.ensures.bytes at c.read_with_total.ensures in record { says = e.0; promise = e.1 }
+    let e = rw c.carried_bytes.ensures.bytes at c.read_with_total.ensures in record { says = e.says; promise = e.promise }

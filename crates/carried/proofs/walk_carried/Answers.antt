@@ -5,4 +5,4 @@ use Rattle.carried.proofs.walk_carried.Goals as goal
 pub returns : goal.returns
 returns c =
     let e = rw c.carried_bytes.ensures.bytes at c.walk_by_caller.ensures in
-    record { says = e.0; arrives = e.1.0; full = e.1.1 }
+    record { says = e.says; arrives = e.arrives; full = e.full }
