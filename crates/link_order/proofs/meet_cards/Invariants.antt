@@ -1,7 +1,5 @@
 -- `order::meet_cards` meets its contract. The loop's invariant: `k` is at most 4,096 and the queue's length at most 256. Assumes nothing.
-use native.Mathlib.Omega.{arith}
 use Prim.Native.Nat.{◌≤◌, ◌-◌}
-use borrow.Author.Rules.{rules}
 use Rattle.link_order.proofs.meet_cards.Given as goal
 
 abbrev pub invariant-loop-k : goal.invariant-loop-k

@@ -1,7 +1,5 @@
 -- `order::place_links` meets its contract. The loop's invariant: `k` is at most 4,096 and the order's length at most 2,048. Assumes nothing.
-use native.Mathlib.Omega.{arith}
 use Prim.Native.Nat.{◌≤◌, ◌-◌}
-use borrow.Author.Rules.{rules}
 use Rattle.link_order.proofs.place_links.Given as goal
 
 abbrev pub invariant-loop-k : goal.invariant-loop-k

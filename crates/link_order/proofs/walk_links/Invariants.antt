@@ -1,7 +1,5 @@
 -- `order::walk_links` is safe. The loop's invariant: the queue has at most 256 cards, the order at most 2,048 links, and `head` is in the queue or at its end. Assumes nothing.
-use native.Mathlib.Omega.{arith}
 use Prim.Native.Nat.{◌≤◌, ◌-◌}
-use borrow.Author.Rules.{rules}
 use Rattle.link_order.proofs.walk_links.Given as goal
 
 abbrev pub invariant-loop-head : goal.invariant-loop-head

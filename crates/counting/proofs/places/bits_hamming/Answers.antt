@@ -8,7 +8,6 @@ use Rattle.rack.specs.Columns.{hamming}
 use Rattle.rack.proofs.PlanFile.{address_size_is}
 use Rattle.rack.proofs.Hamming.{hamming_none}
 use Rattle.counting.proofs.Bytes.{hamming_parts}
-use borrow.Author.Rules.{rules}
 use Rattle.counting.proofs.places.bits_hamming.Goals as goal
 
 pub bytes_hamming-sum-requires : goal.bytes_hamming-sum-requires

@@ -1,7 +1,6 @@
 -- The table's entry for a byte is the ones in it. Assumes nothing.
 use native.Mathlib.Omega.{arith}
 use Rattle.counting.proofs.TableRule.{ones_le}
-use borrow.Author.Rules.{rules}
 use Rattle.counting.proofs.places.byte_ones.Goals as goal
 
 pub overflow_cast-result-2 : goal.overflow_cast-result-2

@@ -1,7 +1,7 @@
 -- The loop's invariant: the sum is the differing places of the first t bytes. Assumes nothing.
 use native.Mathlib.Omega.{arith}
 use mathlib.Core.Path.{◌≡◌, sym, ap, ◌∙◌}
-use Prim.Native.Nat.{ℕ, ◌+◌, ◌*◌, ◌-◌, ◌≤◌}
+use Prim.Native.Nat.{ℕ, ◌+◌, ◌*◌}
 use Rattle.rack.specs.Columns.{hamming}
 use Rattle.rack.proofs.Hamming.{hamming_none, hamming_le}
 use Rattle.rack.specs.PlanFile.{bit_from}

@@ -1,11 +1,8 @@
 -- The loop's invariant: the sum is the differing places of the first t bytes. Assumes nothing.
-use native.Mathlib.Omega.{arith}
-use mathlib.Core.Path.{◌≡◌, sym, ap, ◌∙◌}
-use Prim.Native.Nat.{ℕ, ◌+◌, ◌*◌, ◌-◌, ◌≤◌}
+use mathlib.Core.Path.{◌≡◌}
+use Prim.Native.Nat.{◌*◌, ◌-◌, ◌≤◌}
 use Rattle.rack.specs.Columns.{hamming}
-use Rattle.rack.proofs.Hamming.{hamming_none, hamming_le}
 use Rattle.rack.specs.PlanFile.{bit_from}
-use Rattle.counting.proofs.Bytes.{hamming_from}
 use Rattle.counting.proofs.places.bytes_hamming.Given as goal
 
 abbrev pub invariant-loop-t : goal.invariant-loop-t

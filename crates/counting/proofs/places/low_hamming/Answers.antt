@@ -1,10 +1,7 @@
 -- Bytes cut below bit k differ where their lowest k bits differ. Assumes nothing.
 use native.Mathlib.Omega.{arith}
-use lib.Pow.{pow_pos}
 use mathlib.Core.Path.{◌∙◌}
-use Rattle.rack.proofs.Bits.{bit_weight}
 use Rattle.counting.proofs.Bytes.{hamming_low_bits}
-use borrow.Author.Rules.{rules}
 use Rattle.counting.proofs.places.low_hamming.Goals as goal
 
 pub returns : goal.returns

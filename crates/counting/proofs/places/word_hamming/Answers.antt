@@ -1,7 +1,6 @@
 -- The places in which two words differ are the ones of their xor. Assumes nothing.
 use mathlib.Core.Path.{◌∙◌}
 use Rattle.counting.proofs.TableRule.{ones_xor}
-use borrow.Author.Rules.{rules}
 use Rattle.counting.proofs.places.word_hamming.Goals as goal
 
 pub returns-clause-is : goal.returns-clause-is

@@ -1,10 +1,7 @@
 -- After i bytes the sum is the ones of the lowest 8 i bits, and the rest is what lies above them. Assumes nothing.
-use mathlib.Core.Path.{◌≡◌, sym, ap, ◌∙◌}
-use Prim.Native.Nat.{ℕ, ◌+◌, ◌*◌, ◌-◌, ◌/◌, ◌%◌, ◌^◌, ◌≤◌}
-use native.Mathlib.Omega.{arith}
-use lib.Pow.{shr-shr}
+use mathlib.Core.Path.{◌≡◌}
+use Prim.Native.Nat.{◌*◌, ◌-◌, ◌/◌, ◌^◌, ◌≤◌}
 use Rattle.counting.specs.Ones.{ones_in}
-use Rattle.counting.proofs.TableRule.{ones_byte, ones_none, ones_le}
 use Rattle.counting.proofs.places.word_ones.Given as goal
 
 abbrev pub invariant-loop-i : goal.invariant-loop-i

@@ -3,7 +3,6 @@ use mathlib.Core.Path.{ap, sym, ◌∙◌}
 use Rattle.rack.specs.Wiring.{Link}
 use Rattle.rack.proofs.WiringFile.{wiring_at_link}
 use native.Mathlib.Omega.{arith}
-use borrow.Author.Rules.{rules}
 use Rattle.rack.proofs.bytes.first_end.Goals as goal
 
 pub returns-clause-is : goal.returns-clause-is

@@ -2,7 +2,6 @@
 use mathlib.Core.Path.{ap₂}
 use Prim.Native.Nat.{ℕ, ◌+◌, ◌*◌}
 use Rattle.rack.specs.Buffers.{number32_at}
-use borrow.Author.Rules.{rules}
 use Rattle.rack.proofs.bytes.number32_at.Goals as goal
 
 pub returns : goal.returns

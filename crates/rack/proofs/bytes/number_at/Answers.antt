@@ -3,7 +3,6 @@ use Rattle.rack.specs.Buffers.{number_at}
 use native.Mathlib.Numerals.{add-one}
 use native.Mathlib.Omega.{arith}
 use Prim.Native.Nat.{◌+◌}
-use borrow.Author.Rules.{rules}
 use Rattle.rack.proofs.bytes.number_at.Goals as goal
 
 pub overflow_cast-result : goal.overflow_cast-result

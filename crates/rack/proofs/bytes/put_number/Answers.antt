@@ -1,6 +1,5 @@
 -- One byte is appended after the other. Assumes nothing.
 use Rattle.rack.proofs.Appending.{appends_two}
-use borrow.Author.Rules.{rules}
 use Rattle.rack.proofs.bytes.put_number.Goals as goal
 
 pub returns : goal.returns

@@ -1,6 +1,5 @@
 -- Its low half is appended, and then its high half. Assumes nothing.
 use Rattle.rack.proofs.Appending.{appends_four}
-use borrow.Author.Rules.{rules}
 use Rattle.rack.proofs.bytes.put_number32.Goals as goal
 
 pub returns : goal.returns

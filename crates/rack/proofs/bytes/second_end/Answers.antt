@@ -5,7 +5,6 @@ use mathlib.Core.Path.{ap, sym, ◌∙◌}
 use Rattle.rack.specs.Wiring.{Link}
 use Rattle.rack.proofs.WiringFile.{wiring_at_link}
 use native.Mathlib.Omega.{arith}
-use borrow.Author.Rules.{rules}
 use Rattle.rack.proofs.bytes.second_end.Goals as goal
 
 pub returns : goal.returns

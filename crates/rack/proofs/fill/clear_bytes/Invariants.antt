@@ -1,8 +1,7 @@
 -- The first i bytes are zero, the others as they were. Assumes nothing.
 use Prim.Native.Nat.{◌-◌}
-use native.Mathlib.Omega.{arith}
 use lib.ListN.{length}
-use Rattle.rack.proofs.Zeros.{Zeroed, zeroed_none, zeroed_more, zeroed_all}
+use Rattle.rack.proofs.Zeros.{Zeroed}
 use Rattle.rack.proofs.fill.clear_bytes.Given as goal
 
 abbrev pub invariant-loop-i : goal.invariant-loop-i

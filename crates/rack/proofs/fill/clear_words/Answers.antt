@@ -1,8 +1,6 @@
 -- The first i words are zero, the others as they were. Assumes nothing.
-use Prim.Native.Nat.{◌-◌}
 use native.Mathlib.Omega.{arith}
-use lib.ListN.{length}
-use Rattle.rack.proofs.Zeros.{Zeroed, zeroed_none, zeroed_more, zeroed_all}
+use Rattle.rack.proofs.Zeros.{zeroed_none, zeroed_more, zeroed_all}
 use Rattle.rack.proofs.fill.clear_words.Goals as goal
 
 pub loop-i-init : goal.loop-i-init

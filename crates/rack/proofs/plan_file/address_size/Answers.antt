@@ -1,7 +1,6 @@
 -- Eight columns a byte. Assumes nothing.
 use mathlib.Core.Path.{refl}
 use native.Mathlib.Omega.{arith}
-use borrow.Author.Rules.{rules}
 use Rattle.rack.specs.PlanFile.{address_size}
 use Rattle.rack.proofs.plan_file.address_size.Goals as goal
 

@@ -2,7 +2,6 @@
 use mathlib.Core.Path.{refl}
 use native.Mathlib.Nat.{mul-le-mul}
 use native.Mathlib.Omega.{arith}
-use borrow.Author.Rules.{rules}
 use Rattle.rack.proofs.plan_file.address_start.Goals as goal
 
 pub overflow_mul-result-2 : goal.overflow_mul-result-2

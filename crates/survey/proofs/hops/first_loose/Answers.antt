@@ -1,8 +1,6 @@
 -- Every link before i is tight; the first that is not is given, and m at the end. Assumes nothing.
-use Prim.Native.Nat.{ℕ, ◌-◌, ◌≤◌, ◌<◌}
 use native.Mathlib.Omega.{arith}
 use borrow.Author.Count.{below_more}
-use borrow.Author.Rules.{rules}
 use Rattle.rack.specs.WiringFile.{file_wiring}
 use Rattle.survey.specs.Lowering.{Tight}
 use Rattle.survey.proofs.Passes.{loose_here, loose_none, near_tight, far_loose}

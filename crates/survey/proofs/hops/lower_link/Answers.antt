@@ -1,7 +1,6 @@
 -- The rows of the two ends are lowered by each other. Assumes nothing.
 use mathlib.Core.Path.{sym, ◌∙◌}
 use native.Mathlib.Omega.{arith}
-use borrow.Author.Rules.{rules}
 use Rattle.survey.proofs.Passes.{link_lowered}
 use Rattle.survey.proofs.hops.lower_link.Goals as goal
 

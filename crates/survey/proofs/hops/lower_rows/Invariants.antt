@@ -1,10 +1,6 @@
 -- The first b places of the two rows are lowered: one place more each turn, and 256 at the end. Assumes nothing.
-use mathlib.Core.Path.{◌≡◌}
 use Prim.Native.Nat.{◌-◌, ◌≤◌}
-use native.Mathlib.Omega.{arith}
 use Rattle.survey.specs.Lowering.{RowsLowered}
-use Rattle.survey.proofs.Rows.{rows_none, rows_more}
-use lib.ListN.{length-set}
 use Rattle.survey.proofs.hops.lower_rows.Given as goal
 
 abbrev pub invariant-loop-b : goal.invariant-loop-b

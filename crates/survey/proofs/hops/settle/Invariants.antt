@@ -1,12 +1,8 @@
 -- The bounds stay above hops, and once no link is loose they are hops; each turn that goes on lowers their sum. Assumes nothing.
 use Prim.Native.Nat.{ℕ, ◌+◌, ◌-◌, ◌≤◌, ◌<◌, min}
-use native.Mathlib.Omega.{arith}
-use borrow.Author.Rules.{rules}
 use Rattle.rack.specs.Lists.{sum}
 use Rattle.rack.specs.WiringFile.{file_wiring}
-use Rattle.rack.proofs.Logic.{by_lt}
 use Rattle.survey.specs.Lowering.{Above, Tight}
-use Rattle.survey.proofs.Passes.{table_hops}
 use Rattle.survey.proofs.hops.settle.Given as goal
 
 abbrev pub invariant-loop-loose : goal.invariant-loop-loose

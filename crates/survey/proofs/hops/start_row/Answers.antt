@@ -1,5 +1,4 @@
 -- The row is filled, and then its place on the diagonal is made 0. Assumes nothing.
-use borrow.Author.Rules.{rules}
 use Rattle.survey.proofs.FirstBounds.{started_row}
 use Rattle.survey.proofs.hops.start_row.Goals as goal
 

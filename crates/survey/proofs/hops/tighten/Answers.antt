@@ -1,5 +1,4 @@
 -- The search gives m, or a loose link, which lowers some bound. Assumes nothing.
-use borrow.Author.Rules.{rules}
 use Rattle.rack.specs.WiringFile.{file_wiring}
 use Rattle.survey.specs.Lowering.{Loose}
 use Rattle.survey.proofs.Passes.{tightened_none, tightened_link}

@@ -1,8 +1,6 @@
 -- The first c cards have the level: one more each turn, and 256 at the end. Assumes nothing.
 use mathlib.Core.Path.{◌≡◌}
-use Prim.Native.Nat.{◌-◌, ◌≤◌}
 use native.Mathlib.Omega.{arith}
-use Rattle.survey.specs.CardLevels.{LevelsFilled}
 use Rattle.survey.proofs.CardLevels.{levels_none, levels_more}
 use Rattle.survey.proofs.levels.fill_levels.Goals as goal
 

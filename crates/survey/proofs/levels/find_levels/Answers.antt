@@ -1,5 +1,4 @@
 -- The first levels are above hops, and `settle_levels` lowers them to hops. Assumes nothing.
-use borrow.Author.Rules.{rules}
 use Rattle.survey.proofs.CardLevels.{first_levels}
 use Rattle.survey.proofs.levels.find_levels.Goals as goal
 

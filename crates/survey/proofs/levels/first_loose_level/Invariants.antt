@@ -1,12 +1,7 @@
 -- Every link before i has levels within one; the first that has not is given, and m at the end. Assumes nothing.
 use Prim.Native.Nat.{ℕ, ◌-◌, ◌≤◌, ◌<◌}
-use native.Mathlib.Omega.{arith}
-use borrow.Author.Count.{below_more}
-use borrow.Author.Rules.{rules}
 use Rattle.rack.specs.WiringFile.{file_wiring}
 use Rattle.survey.specs.CardLevels.{LevelTight}
-use Rattle.survey.proofs.Passes.{loose_here, loose_none}
-use Rattle.survey.proofs.CardLevels.{level_near, level_far}
 use Rattle.survey.proofs.levels.first_loose_level.Given as goal
 
 abbrev pub invariant-loop-i : goal.invariant-loop-i

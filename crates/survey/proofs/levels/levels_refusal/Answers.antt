@@ -1,5 +1,4 @@
 -- Levels that are hops give 9, and where they give none 10. Assumes nothing.
-use borrow.Author.Rules.{rules}
 use Rattle.survey.proofs.Forms.{formed_cards}
 use Rattle.survey.proofs.LevelRefusals.{first_refused, second_refused}
 use Rattle.survey.proofs.levels.levels_refusal.Goals as goal

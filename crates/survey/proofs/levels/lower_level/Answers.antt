@@ -1,6 +1,5 @@
 -- The levels of the two ends are lowered by each other. Assumes nothing.
 use native.Mathlib.Omega.{arith}
-use borrow.Author.Rules.{rules}
 use Rattle.survey.proofs.CardLevels.{level_lowered}
 use lib.ListN.{length-set}
 use Rattle.survey.proofs.levels.lower_level.Goals as goal

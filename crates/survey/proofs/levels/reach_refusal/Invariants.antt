@@ -1,13 +1,7 @@
 -- Every card before c can be reached; the first that can't is refused, and none at the end. Assumes nothing.
-use mathlib.Core.Path.{refl, sym, ◌∙◌}
 use mathlib.Core.Logic.{◌≢◌}
 use Prim.Native.Nat.{ℕ, ◌-◌, ◌≤◌, ◌<◌}
-use native.Mathlib.Omega.{arith}
-use borrow.Author.Count.{below_more}
-use borrow.Author.Rules.{rules}
 use lib.ListN.{get_or}
-use Rattle.survey.proofs.LevelRefusals.{unreached_here, unreached_none}
-use Rattle.survey.proofs.Forms.{refused_is}
 use Rattle.survey.proofs.levels.reach_refusal.Given as goal
 
 abbrev pub invariant-loop-c : goal.invariant-loop-c

@@ -5,7 +5,6 @@ use Rattle.survey.proofs.Marks.{more_marked}
 use mathlib.Core.Path.{sym}
 use native.Mathlib.Omega.{arith}
 use lib.ListN.{length-set}
-use borrow.Author.Rules.{rules}
 use Rattle.survey.proofs.links.link_fault.Goals as goal
 
 pub returns-then-n-p : goal.returns-then-n-p
