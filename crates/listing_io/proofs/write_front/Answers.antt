@@ -1,5 +1,5 @@
 -- What a write takes are the bytes behind those that are written.
-use Rattle.std.proofs.Common.{rules, ◌-◌, ◌++◌, take, drop, length, sym, ap, ◌∙◌, subst}
+use Rattle.std.proofs.Common.{rules, ◌++◌, take, sym, ap, ◌∙◌, subst}
 use Rattle.std.proofs.lemmas.List.{take_rest}
 use Rattle.std.specs.Io.KnownBytes.{Appends}
 use Rattle.std.proofs.KnownBytes.{Appends-trans}
