@@ -2,8 +2,6 @@
 // there is, with 2,048 links of which only the last is in fault; tests/listing shows others.
 #![tactic(auto)]
 
-use libc::{STDIN_FILENO, STDOUT_FILENO};
-
-fn main() {
-    listing_io::print_listing(STDIN_FILENO, STDOUT_FILENO);
+fn main(rt: HostRuntime) {
+    listing_io::print_listing(&mut rt.stdin(), &mut rt.stdout());
 }

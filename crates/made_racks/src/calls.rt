@@ -25,8 +25,9 @@ fn frame_text(number: u32, outcome: u32) -> usize {
     outcome as usize + 1
 }
 
-fn say_planned(a: Answer, words: u32, hops: u32) {
+fn say_planned(rt: &impl Print, a: Answer, words: u32, hops: u32) {
     say(
+        rt,
         b" accepted, columns C, sums D E\
         | refused A, sums D E\
         | refused A link B, sums D E\
@@ -37,13 +38,14 @@ fn say_planned(a: Answer, words: u32, hops: u32) {
 }
 
 // Plans a rack in lent buffers.
-pub fn planned(file: &[u8], words: &mut [u64], hops: &mut [u8]) {
+pub fn planned(rt: &impl Print, file: &[u8], words: &mut [u64], hops: &mut [u8]) {
     let answer = plan_rack(file, words, hops);
-    say_planned(answer, words_sum(words), bytes_sum(hops));
+    say_planned(rt, answer, words_sum(words), bytes_sum(hops));
 }
 
-fn say_written(a: Answer, sum: u32) {
+fn say_written(rt: &impl Print, a: Answer, sum: u32) {
     say(
+        rt,
         b"; plan C bytes sum D\
         |; plan refused A sum D\
         |; plan refused A link B sum D\
@@ -54,16 +56,17 @@ fn say_written(a: Answer, sum: u32) {
 }
 
 // Writes the plan of a rack into a lent buffer; its length, or 0.
-pub fn written(file: &[u8], output: &mut [u8]) -> usize {
+pub fn written(rt: &impl Print, file: &[u8], output: &mut [u8]) -> usize {
     let answer = write_plan(file, output);
-    say_written(answer, bytes_sum(output));
+    say_written(rt, answer, bytes_sum(output));
     answer.value as usize
 }
 
 // Reads a plan.
-pub fn read(plan: &[u8]) {
+pub fn read(rt: &impl Print, plan: &[u8]) {
     let s = read_plan(plan);
     say(
+        rt,
         b"; read A: B C D|; read A",
         answer_text(s.number),
         &[s.number, s.cards, s.links, s.columns],
@@ -71,13 +74,14 @@ pub fn read(plan: &[u8]) {
 }
 
 // The column crossed, if there is one.
-fn say_crossed(c: FirstColumn) {
-    say(b"| crossing column A", c.found as usize, &[c.column]);
+fn say_crossed(rt: &impl Print, c: FirstColumn) {
+    say(rt, b"| crossing column A", c.found as usize, &[c.column]);
 }
 
-fn say_walked(from: u32, goal: u32, w: Walked, met: u32) {
+fn say_walked(rt: &impl Print, from: u32, goal: u32, w: Walked, met: u32) {
     let t = w.tally;
     say(
+        rt,
         b"; walk A to B refused C, met sum E, counts F G\
         |; walk A to B stuck, hops D, met sum E, counts F G\
         |; walk A to B arrived, hops D, met sum E, counts F G",
@@ -87,12 +91,12 @@ fn say_walked(from: u32, goal: u32, w: Walked, met: u32) {
 }
 
 // Walks a frame, with counts handed in, in a lent buffer.
-pub fn walked(plan: &[u8], from: u32, goal: u32, tally: Tally, met: &mut [u16]) {
+pub fn walked(rt: &impl Print, plan: &[u8], from: u32, goal: u32, tally: Tally, met: &mut [u16]) {
     let f = walk_frame(plan, from, goal, tally, met);
     let w = f.walked;
-    say_walked(from, goal, w, cards_sum(met));
+    say_walked(rt, from, goal, w, cards_sum(met));
     let c = f.crossed;
-    say_crossed(c);
+    say_crossed(rt, c);
 }
 
 // The counts after one more frame.
@@ -115,16 +119,17 @@ fn counts_to_each(plan: &[u8], n: u32, from: u32) -> Tally {
 }
 
 // Walks a frame from one card to each of the `n` cards.
-pub fn walked_to_each(plan: &[u8], n: u32, from: u32) {
+pub fn walked_to_each(rt: &impl Print, plan: &[u8], n: u32, from: u32) {
     let t = counts_to_each(plan, n, from);
-    say(b"; to each card A B", 0, &[t.frames, t.hops]);
+    say(rt, b"; to each card A B", 0, &[t.frames, t.hops]);
 }
 
 // Takes one step.
-pub fn stepped(plan: &[u8], from: u32, goal: u32) {
+pub fn stepped(rt: &impl Print, plan: &[u8], from: u32, goal: u32) {
     let f = step_frame(plan, from, goal);
     let s = f.stepped;
     say(
+        rt,
         b"; step A to B refused C\
         |; step A to B stuck\
         |; step A to B arrived\
@@ -133,11 +138,12 @@ pub fn stepped(plan: &[u8], from: u32, goal: u32) {
         &[from, goal, s.number, s.link, s.far],
     );
     let c = f.crossed;
-    say_crossed(c);
+    say_crossed(rt, c);
 }
 
-fn say_address(card: u32, number: u32, sum: u32) {
+fn say_address(rt: &impl Print, card: u32, number: u32, sum: u32) {
     say(
+        rt,
         b"; address of A sum C|; address of A refused B",
         answer_text(number),
         &[card, number, sum],
@@ -145,9 +151,9 @@ fn say_address(card: u32, number: u32, sum: u32) {
 }
 
 // Asks for a card's address.
-pub fn addressed(plan: &[u8], card: u32) {
+pub fn addressed(rt: &impl Print, plan: &[u8], card: u32) {
     let mut number: u32 = 0;
     let part = card_address(plan, card, &mut number);
     let sum = bytes_sum(part);
-    say_address(card, number, sum);
+    say_address(rt, card, number, sum);
 }

@@ -6,33 +6,34 @@ use crate::say::say_text;
 use crate::wirings::{fault, rack};
 
 // A case by the first letter of its kind.
-fn case(line: &[u8]) {
+fn case(rt: &impl Print, line: &[u8]) {
     match letter(line, 0) {
-        b'r' => rack(line),
-        b'f' => fault(line),
-        b'l' => lent(line),
-        b'o' => output(line),
-        b'c' | b'w' => plan(line),
+        b'r' => rack(rt, line),
+        b'f' => fault(rt, line),
+        b'l' => lent(rt, line),
+        b'o' => output(rt, line),
+        b'c' | b'w' => plan(rt, line),
         _ => {}
     }
-    say_text(b"\n", 0);
+    say_text(rt, b"\n", 0);
 }
 
 // Each line of a text as a case; a newline stands before each line.
-fn each_case(text: &[u8]) {
+fn each_case(rt: &impl Print, text: &[u8]) {
     let mut at: usize = 0;
     while at < text.len() {
         let first = at + 1;
         let end = line_end(text, first);
-        case(&text[first..end]);
+        case(rt, &text[first..end]);
         at = end;
     }
 }
 
 // Racks by rules: rule, cards, links, mixed or not, and a walk from one card to another. The first three are those that
 // docs/REQUIREMENTS.md names outside its table of cases.
-pub fn racks() {
+pub fn racks(rt: &impl Print) {
     each_case(
+        rt,
         b"
 rack|chain    |256| 255|     |  0|255|chain 256:
 rack|chain    |257| 256|     |  0|256|chain 257:
@@ -69,8 +70,9 @@ rack|chain    |  0|   0|     |  0|  0|no card:",
 // Files and lent buffers with faults.
 // fault: a ring's links, its number of cards, the bytes of its file, and two links put anew, each with its two ends.
 // lent: the bytes of a file, the words and the hops lent. output: the bytes lent for a plan. walk: as below.
-pub fn files() {
+pub fn files(rt: &impl Print) {
     each_case(
+        rt,
         b"
 fault|  4|  4|   3|  0|  0|  1|  0|  0|  1|3 bytes:
 fault|  4|  4|   0|  0|  0|  1|  0|  0|  1|no bytes:
@@ -94,8 +96,9 @@ walk|4|16390|0| 3|0|2|0|0|257|a plan of 3 bytes and room for 257 cards",
 
 // Plans of rings: the ring, a place where a byte is put anew (16390 is none), the byte, the bytes of the plan, and a walk's two cards.
 // walk: also the frames and hops counted so far, and the room for cards met.
-pub fn plans() {
+pub fn plans(rt: &impl Print) {
     each_case(
+        rt,
         b"
 changed|  4|16390|  0|  26| 0|  2|ring 4, whole
 changed|  4|   24|  0|  26| 0|  2|ring 4, card 2 at 0

@@ -12,8 +12,8 @@ pub mod say;
 pub mod shapes;
 pub mod wirings;
 
-fn main() {
-    racks();
-    files();
-    plans();
+fn main(rt: HostRuntime) {
+    racks(&rt);
+    files(&rt);
+    plans(&rt);
 }

@@ -21,27 +21,28 @@ fn ring_plan(line: &[u8]) -> [u8; 16390] {
 }
 
 // Reads a plan, takes a step, walks a frame, and asks for an address.
-fn changed(line: &[u8], plan: &[u8]) {
+fn changed(rt: &impl Print, line: &[u8], plan: &[u8]) {
     let from = number(line, 5);
     let goal = number(line, 6);
     let mut met = [7u16; 256];
-    say_text(line, 7);
-    read(plan);
-    stepped(plan, from, goal);
-    walked(plan, from, goal, Tally { frames: 5, hops: 6 }, &mut met);
-    addressed(plan, goal);
+    say_text(rt, line, 7);
+    read(rt, plan);
+    stepped(rt, plan, from, goal);
+    walked(rt, plan, from, goal, Tally { frames: 5, hops: 6 }, &mut met);
+    addressed(rt, plan, goal);
 }
 
 // Walks a frame with counts handed in, and room for some cards.
-fn walk(line: &[u8], plan: &[u8]) {
+fn walk(rt: &impl Print, line: &[u8], plan: &[u8]) {
     let tally = Tally {
         frames: number(line, 7),
         hops: number(line, 8),
     };
     let mut met = [7u16; 257];
     let room = number_to(line, 9, 257);
-    say_text(line, 10);
+    say_text(rt, line, 10);
     walked(
+        rt,
         plan,
         number(line, 5),
         number(line, 6),
@@ -51,12 +52,12 @@ fn walk(line: &[u8], plan: &[u8]) {
 }
 
 // The first bytes of such a plan, to be walked or used in every way.
-pub fn plan(line: &[u8]) {
+pub fn plan(rt: &impl Print, line: &[u8]) {
     let plan = ring_plan(line);
     let size = number_to(line, 4, 16390);
     if letter(line, 0) == b'w' {
-        walk(line, &plan[0..size]);
+        walk(rt, line, &plan[0..size]);
     } else {
-        changed(line, &plan[0..size]);
+        changed(rt, line, &plan[0..size]);
     }
 }

@@ -1,41 +1,40 @@
-// Text with numbers in it on standard output, and sums that stand for many numbers in a line.
+// Text with numbers in it on standard output, where nothing tells of output that fails, and sums that stand for many numbers in a line.
 ghost use Rattle.std.specs.Prelude.{◌<◌};
 
 use crate::lines::cell;
-use libc::STDOUT_FILENO;
 
-fn say_number(v: u32) {
-    io::print_decimal(STDOUT_FILENO, v as u64);
+fn say_number(rt: &impl Print, v: u32) {
+    let _ = rt.print(v);
 }
 
 // A byte of a text, or the number for which it stands.
-fn say_byte(byte: u8, numbers: &[u32]) {
+fn say_byte(rt: &impl Print, byte: u8, numbers: &[u32]) {
     if b'A' <= byte {
         let k = (byte - b'A') as usize;
         if k < numbers.len() {
-            say_number(numbers[k]);
+            say_number(rt, numbers[k]);
             return;
         }
     }
-    io::write_all(STDOUT_FILENO, &[byte]);
+    let _ = rt.write_all(&[byte]);
 }
 
 // Says text `which` of those that `|` parts, with the numbers in it by capital letters: `A` is the first.
-pub fn say(texts: &[u8], which: usize, numbers: &[u32]) {
+pub fn say(rt: &impl Print, texts: &[u8], which: usize, numbers: &[u32]) {
     let mut at = cell(texts, which);
     while at < texts.len() {
         let byte = texts[at];
         if byte == b'|' {
             return;
         }
-        say_byte(byte, numbers);
+        say_byte(rt, byte, numbers);
         at += 1;
     }
 }
 
 // A text with no number in it.
-pub fn say_text(texts: &[u8], which: usize) {
-    say(texts, which, &[]);
+pub fn say_text(rt: &impl Print, texts: &[u8], which: usize) {
+    say(rt, texts, which, &[]);
 }
 
 fn wide_byte(x: u8) -> u64 {

@@ -7,37 +7,38 @@ use crate::shapes::{put_link, put_number, wiring};
 use forwarder::walk::Tally;
 
 // Reads a plan, walks one frame on it and one to each card, takes a step, and asks for an address.
-fn used(plan: &[u8], n: u32, from: u32, goal: u32) {
+fn used(rt: &impl Print, plan: &[u8], n: u32, from: u32, goal: u32) {
     let mut met = [7u16; 256];
     let none = Tally { frames: 0, hops: 0 };
-    read(plan);
-    walked(plan, from, goal, none, &mut met);
-    walked_to_each(plan, n, from);
-    stepped(plan, from, goal);
-    addressed(plan, goal);
+    read(rt, plan);
+    walked(rt, plan, from, goal, none, &mut met);
+    walked_to_each(rt, plan, n, from);
+    stepped(rt, plan, from, goal);
+    addressed(rt, plan, goal);
 }
 
 // A wiring file, planned in lent buffers that are not zero, written, read and walked.
-fn file_line(file: &[u8], n: u32, from: u32, goal: u32) {
-    planned_in(file, 1024, 65536);
+fn file_line(rt: &impl Print, file: &[u8], n: u32, from: u32, goal: u32) {
+    planned_in(rt, file, 1024, 65536);
     let mut plan = [7u8; 16390];
-    let size = written(file, &mut plan);
+    let size = written(rt, file, &mut plan);
     if size == 0 {
         return;
     }
     if size <= 16390 {
-        used(&plan[0..size], n, from, goal);
+        used(rt, &plan[0..size], n, from, goal);
     }
 }
 
 // A rack by its rule.
-pub fn rack(line: &[u8]) {
-    say_text(line, 7);
+pub fn rack(rt: &impl Print, line: &[u8]) {
+    say_text(rt, line, 7);
     let links = number_to(line, 3, 2049);
     let size = 4 + 4 * links;
     let mixed = letter(line, 4) == b'm';
     let file = wiring(letter(line, 1), number_to(line, 2, 65535), links, mixed);
     file_line(
+        rt,
         &file[0..size],
         number(line, 2),
         number(line, 5),
@@ -68,9 +69,9 @@ fn faulty_file(line: &[u8]) -> [u8; 8200] {
 }
 
 // The first bytes of such a file.
-pub fn fault(line: &[u8]) {
-    say_text(line, 10);
+pub fn fault(rt: &impl Print, line: &[u8]) {
+    say_text(rt, line, 10);
     let file = faulty_file(line);
     let size = number_to(line, 3, 8200);
-    file_line(&file[0..size], number(line, 1), 0, 1);
+    file_line(rt, &file[0..size], number(line, 1), 0, 1);
 }
