@@ -8,6 +8,9 @@ ghost use Rattle.listing_io.specs.Input.{ListsInput, ListsBytes, PrintsBytes};
 use listing_text::{LENT_TEXT, listing_text};
 use std::io::{Read, Write};
 
+#[cfg(test)]
+mod tests;
+
 // At most so many bytes are read.
 const MOST_INPUT: usize = 8197;
 
