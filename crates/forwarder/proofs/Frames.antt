@@ -13,7 +13,7 @@ use Rattle.reader.specs.declared.layout.Sizes.{Sizes}
 use Rattle.reader.proofs.Reading.{says_laid_out}
 use Rattle.forwarder.specs.Forwarding.{step}
 use Rattle.forwarder.specs.Calls.{step_refusal, StepIs, StepSays}
-use Rattle.forwarder.specs.Parts.{FrameSizes, Refused}
+use Rattle.forwarder.specs.Parts.{FrameSizes, NoLink}
 use Rattle.forwarder.specs.declared.step.Stepped.{Stepped}
 
 module _ (ps : List ℕ) (a b : ℕ) where
@@ -75,7 +75,7 @@ module _ (ps : List ℕ) (a b : ℕ) where
         }
 
   -- THE ANSWER of a step
-  pub step_refused : (x : ℕ) (r : Stepped) → x ≡ step_refusal ps a b → x ≢ 0 → Refused x r → StepSays ps a b r
+  pub step_refused : (x : ℕ) (r : Stepped) → x ≡ step_refusal ps a b → x ≢ 0 → NoLink x 0 r → StepSays ps a b r
   step_refused x r e n f =
       let t = ne_eqb (step_refusal ps a b) 0 (λ z. n (e ∙ z)) in
       record { number = f.number ∙ e; outcome = rw t f.outcome; link = rw t f.link; far = rw t f.far }

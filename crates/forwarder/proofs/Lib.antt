@@ -1,5 +1,3 @@
-pub mod PartCounts
-pub mod Passing
 pub mod Stepping
 pub mod StepLocal
 pub mod Searching

@@ -1,14 +1,13 @@
 -- What the parts of a step and of a walk answer. Assumes nothing: these are definitions.
 use Rattle.std.specs.Prelude.{◌≡◌, Bool, true, false, ◌&&◌, cond, List, ◌++◌, ℕ, ◌+◌, ◌*◌, ◌-◌, ◌≤◌, ◌<◌, ltb, eqb, length, get_or, replicate}
 use Rattle.rack.specs.Limits.{most_cards}
-use Rattle.rack.specs.Wiring.{Link, link_at, touches, other_end}
-use Rattle.rack.specs.PlanFile.{plan_wiring, plan_hamming}
+use Rattle.rack.specs.Wiring.{Link, touches, other_end}
+use Rattle.rack.specs.PlanFile.{plan_hamming}
 use Rattle.reader.specs.Reading.{LaidOut}
 use Rattle.reader.specs.declared.layout.Sizes.{Sizes}
-use Rattle.forwarder.specs.Forwarding.{step, Walk}
-use Rattle.forwarder.specs.Calls.{step_refusal, StepIs, lent_met, walk_hops, takes}
+use Rattle.forwarder.specs.Forwarding.{Walk}
+use Rattle.forwarder.specs.Calls.{step_refusal, lent_met, walk_hops, takes}
 use Rattle.forwarder.specs.declared.step.Stepped.{Stepped}
-use Rattle.forwarder.specs.declared.step.Onward.{Onward}
 use Rattle.forwarder.specs.declared.walk.Tally.{Tally}
 use Rattle.forwarder.specs.declared.walk.Walked.{Walked}
 use Rattle.forwarder.specs.declared.walk.Route.{Route}
@@ -17,46 +16,14 @@ use Rattle.forwarder.specs.declared.walk.Route.{Route}
 unfoldable pub far_card : (n a : ℕ) → Link → ℕ
 far_card n a l = cond (ltb l.first n && ltb l.second n && touches a l) (other_end a l) n
 
--- the far end of a link with the ends p and q where one of them is card a; else `none`
-unfoldable pub far_end : (p q a none : ℕ) → ℕ
-far_end p q a none = cond (eqb p a) q (cond (eqb q a) p none)
-
 -- the cards marked differ from card b in no fewer places than `left`
 pub record NoNearer (ps : List ℕ) (b left : ℕ) (marks : List Bool) : Type 0 where
   pub far : (c : ℕ) → c < most_cards → get_or marks c false ≡ true → ltb (plan_hamming ps c b) left ≡ false
 
--- of a count that may end at `left`: below it all are counted, and never more than there are
-pub record Below (left all r : ℕ) : Type 0 where
-  pub most : r ≤ all
-  pub is : r < left → r ≡ all
-
--- the differing places of card c and card b where c is one of n cards and they are fewer than `left`; else no fewer
-pub record PlacesNearer (ps : List ℕ) (n c b left r : ℕ) : Type 0 where
-  pub card : r < left → c < n
-  pub places : r < left → r ≡ plan_hamming ps c b
-  pub far : left ≤ r → (ltb c n && ltb (plan_hamming ps c b) left) ≡ false
-
--- from link i on up to link r, which is at most link e, none is card a's
-pub record PassedOver (ps : List ℕ) (a i e r : ℕ) : Type 0 where
-  pub from : i ≤ r
-  pub within : r ≤ e
-  pub none : (j : ℕ) → i ≤ j → j < r → touches a (link_at (plan_wiring ps) j) ≡ false
-
--- the step from card a towards card b, and over a link the differing places of the far card and card b
-pub record OnwardIs (ps : List ℕ) (a b : ℕ) (r : Onward) : Type 0 where
-  pub is : StepIs (step ps a b) (record { number = 0; outcome = r.outcome; link = r.link; far = r.far })
-  pub left : r.outcome ≡ 2 → r.left ≡ plan_hamming ps r.far b
-
--- a step that is not over a link
-pub record NoLink (o : ℕ) (r : Onward) : Type 0 where
-  pub outcome : r.outcome ≡ o
-  pub link : r.link ≡ 0
-  pub far : r.far ≡ 0
-
--- a refused step: zeros
-pub record Refused (x : ℕ) (r : Stepped) : Type 0 where
+-- a step's answer that is not over a link
+pub record NoLink (x o : ℕ) (r : Stepped) : Type 0 where
   pub number : r.number ≡ x
-  pub outcome : r.outcome ≡ 0
+  pub outcome : r.outcome ≡ o
   pub link : r.link ≡ 0
   pub far : r.far ≡ 0
 

@@ -12,7 +12,6 @@ use crate::step::{frame_sizes, step_between};
 use counting::ones::ones_table;
 use rack::limits::MOST_TRAFFIC;
 use reader::layout::Sizes;
-use reader::places::plan_hamming;
 
 // The length of the lent numbers, one for each card.
 pub const LENT_MET: usize = 256;
@@ -49,13 +48,12 @@ fn walk_between(ones: &[u8; 256], plan: &[u8], sizes: Sizes, a: usize, b: usize)
     let mut met = [0u16; LENT_MET];
     met[0] = a as u16;
     let mut taken: usize = 0;
-    let left = plan_hamming(ones, plan, sizes, a, b);
-    let mut s = step_between(ones, plan, sizes, a, b, left);
+    let mut s = step_between(ones, plan, sizes, a, b);
     while s.outcome == 2 {
         let at = s.far;
         taken += 1;
         met[taken] = at as u16;
-        s = step_between(ones, plan, sizes, at as usize, b, s.left);
+        s = step_between(ones, plan, sizes, at as usize, b);
     }
     Route {
         arrived: s.outcome,

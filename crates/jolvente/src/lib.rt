@@ -15,7 +15,7 @@ use rack::limits::LENT_PLAN;
 use reader::read::read_plan;
 use records::{LENT_MET_BYTES, LENT_RECORD, put_cards, put_record};
 use traffic::caller_fault;
-use writing::write_plan;
+use planner::write_plan;
 
 mod records;
 

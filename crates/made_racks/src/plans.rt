@@ -4,7 +4,7 @@ use crate::lines::{letter, number, number_to};
 use crate::say::say_text;
 use crate::shapes::wiring;
 use forwarder::walk::Tally;
-use writing::write_plan;
+use planner::write_plan;
 
 // The plan of a ring, with the byte at a place put anew if there is one.
 fn ring_plan(line: &[u8]) -> [u8; 16390] {

@@ -1,12 +1,13 @@
 -- One column more in the words: each card's side of a link, at a place that is free. Assumes nothing.
-use mathlib.Core.Path.{◌≡◌, sym, ap, ap₂, ◌∙◌}
-use mathlib.Core.Bool.{Bool, true, false, cond}
+use mathlib.Core.Path.{◌≡◌, refl, sym, ap, ap₂, ◌∙◌}
+use mathlib.Core.Bool.{Bool, true, false}
 use mathlib.Core.List.{List, [], ◌∷◌, ◌++◌}
-use Prim.Native.Nat.{ℕ, ◌+◌, ◌*◌, ◌/◌, ◌%◌, ◌^◌, ◌<◌}
-use native.Mathlib.Nat.{zero-mul, one-mul}
+use Prim.Native.Nat.{ℕ, suc, ◌+◌, ◌*◌, ◌/◌, ◌%◌, ◌^◌, ◌<◌}
+use native.Mathlib.Nat.{zero-add, zero-mul, one-mul, pow-succ'}
 use native.Mathlib.Omega.{arith}
 use lib.Dec.{ltb}
 use lib.ListN.{length, get_or, set, length-set}
+use lib.Pow.{pow_mono, shl_exact}
 use lib.Seq.{get_or-set_same, get_or-set_other}
 use Rattle.rack.specs.Limits.{lent_words}
 use Rattle.rack.specs.Lists.{differ, one}
@@ -14,38 +15,38 @@ use Rattle.rack.specs.Bits.{bits_value}
 use Rattle.rack.specs.Wiring.{Link, Wiring}
 use Rattle.rack.specs.Columns.{nearer_first, side, column}
 use Rattle.rack.proofs.Logic.{by_eq}
-use Rattle.rack.proofs.Hops.{hops_sym}
-use Rattle.rack.proofs.Bits.{word_weight, bits_value_ext, bits_value_more, bits_value_few}
+use Rattle.rack.proofs.Bits.{bits_value_ext, bits_value_more, bits_value_few}
 use Rattle.rack.proofs.Columns.{column_bit}
 use Rattle.survey.specs.Tables.{cell, HopsIn}
 use Rattle.planner.specs.OpenColumns.{bit_in, WordsOf, side_in, ColumnAdded}
 use Rattle.planner.proofs.AddressWords.{bit_past, bit_new, bit_old}
 
--- A CARD'S SIDE of a link, from what the cards nearer to the one end have and what the others have
-side_cases : (t u : Bool) (weight near far : ℕ) → near ≡ one (differ true u) * weight → far + near ≡ weight → cond t near far ≡ one (differ t u) * weight
-side_cases true u weight near far n f = n
-side_cases false true weight near far n f = omega (arith, n, f, zero-mul weight, one-mul weight)
-side_cases false false weight near far n f = omega (arith, n, f, zero-mul weight, one-mul weight)
-
-pub side_weight_is : (h : List ℕ) (p q c weight near far : ℕ) → near ≡ one (differ true (ltb (cell h 0 p) (cell h 0 q))) * weight → far + near ≡ weight
-    → cond (ltb (cell h p c) (cell h q c)) near far ≡ one (side_in h p q c) * weight
+-- A CARD'S SIDE of a link, by two comparisons of hops
+pub side_weight_is : (h : List ℕ) (p q c weight : ℕ) (t u : Bool) → ltb (cell h c p) (cell h c q) ≡ t → ltb (get_or h p 0) (get_or h q 0) ≡ u
+    → one (differ t u) * weight ≡ one (side_in h p q c) * weight
 unfolding side_in
-side_weight_is h p q c = side_cases (ltb (cell h p c) (cell h q c)) (ltb (cell h 0 p) (cell h 0 q))
+side_weight_is h p q c weight t u et eu = rw (zero-add p, zero-add q, et, eu)
 
--- hops are the same both ways, so that the rows of the link's ends have what each card compares
 side_in_side : (w : Wiring) (h : List ℕ) (l : Link) → HopsIn w h → l.first < w.cards → l.second < w.cards → (c : ℕ) → c < w.cards
     → side_in h l.first l.second c ≡ side w l c
 unfolding side_in side nearer_first
 side_in_side w h l t hp hq c hc =
     ap₂ differ
-    (ap₂ ltb (t.is l.first c hp hc ∙ hops_sym w l.first c hp hc) (t.is l.second c hq hc ∙ hops_sym w l.second c hq hc))
+    (ap₂ ltb (t.is c l.first hc hp) (t.is c l.second hc hq))
     (ap₂ ltb (t.is 0 l.first (omega arith) hp) (t.is 0 l.second (omega arith) hq))
 
--- A BIT at a place of a word: its weight is a shifted one
+-- A BIT at a free place: its weight is a shifted one, and it fits in the word
 pub weighed : (b : Bool) (s : ℕ) → s < 64 → one b * (1 * 2 ^ s % 18446744073709551616) ≡ one b * 2 ^ s
-weighed b s h = ap (λ (x : ℕ). one b * x) (word_weight s h)
+weighed b s h = ap (λ (x : ℕ). one b * x) (shl_exact {a = 1} 1 s 64 (omega arith) (omega arith) ∙ one-mul (2 ^ s))
 
--- ONE CARD MORE
+pub bit_fits : (s x : ℕ) (b : Bool) → s < 64 → x < 2 ^ s → x + one b * 2 ^ s < 2 ^ 64
+bit_fits s x true h l = omega (arith, one-mul (2 ^ s), pow-succ' 2 s, pow_mono {i = suc s} {j = 64} (omega arith))
+bit_fits s x false h l = omega (arith, zero-mul (2 ^ s), pow_mono {i = s} {j = 64} (omega arith))
+
+-- CARD BY CARD
+pub none_added : (h ws : List ℕ) (p q k : ℕ) → ColumnAdded h ws ws p q k 0
+none_added h ws p q k = record { long = refl; added = λ c l. absurd (omega arith); other = λ c t l n. refl; after = λ j l. refl }
+
 pub more_added : (h old new : List ℕ) (p q k c v : ℕ) → ColumnAdded h old new p q k c → c < 256 → k < 256 → length old ≡ lent_words
     → v ≡ get_or new (4 * c + k / 64) 0 + one (side_in h p q c) * 2 ^ (k % 64) → ColumnAdded h old (set new (4 * c + k / 64) v) p q k (c + 1)
 more_added h old new p q k c v a hc hk long hv =

@@ -1,5 +1,5 @@
 -- The words of the cards: their bits are those of the columns, and so are their differing places. Assumes nothing.
-use mathlib.Core.Path.{◌≡◌, sym, ap, ◌∙◌}
+use mathlib.Core.Path.{◌≡◌, refl, sym, ap, ◌∙◌}
 use mathlib.Core.Bool.{Bool, true, false}
 use mathlib.Core.Logic.{◌≢◌}
 use mathlib.Core.List.{List, [], ◌∷◌, ◌++◌}
@@ -10,7 +10,7 @@ use lib.Seq.{get_or-append_seam}
 use Rattle.rack.specs.Limits.{lent_words}
 use Rattle.rack.specs.Lists.{differ, count, any, range}
 use Rattle.rack.specs.Bits.{number_bit}
-use Rattle.rack.specs.Wiring.{Link}
+use Rattle.rack.specs.Wiring.{Link, Wiring}
 use Rattle.rack.specs.Columns.{hamming}
 use Rattle.rack.proofs.Logic.{true_not_false, not_true_false, by_bool, by_lt, differ_false}
 use Rattle.rack.proofs.Lists.{any_in, in_any, count_none, none_count}
@@ -19,7 +19,7 @@ use Rattle.rack.proofs.Bits.{bits_value_number, bits_value_few, bits_value_ext}
 use Rattle.rack.proofs.Hamming.{hamming_none, hamming_ext, hamming_add, hamming_same, hamming_front}
 use Rattle.rack.proofs.Columns.{hamming_count}
 use Rattle.planner.specs.Words.{word_bit}
-use Rattle.planner.specs.OpenColumns.{bit_in, separated, WordsOf, SameWords, part_hamming, words_hamming}
+use Rattle.planner.specs.OpenColumns.{bit_in, separated, columns_opened, WordsOf, ColumnsOpened, SameWords, WordsUsed, part_hamming, words_hamming}
 
 -- THE FOUR WORDS of two cards
 part_bit : (ws : List ℕ) (c t i : ℕ) → i < 64 → word_bit ws c (64 * t + i) ≡ number_bit (get_or ws (4 * c + t) 0) i
@@ -82,6 +82,21 @@ words_hamming_columns cs n ws s few a b ha hb =
     hamming_ext 256 (word_bit ws a) (word_bit ws b) (bit_in cs a) (bit_in cs b) (λ j l. word_bit_column cs n ws s a j ha l) (λ j l. word_bit_column cs n ws s b j hb l)
     ∙ hamming_front (length cs) 256 (bit_in cs a) (bit_in cs b) few
     (λ j. bit_past cs a (length cs + j) (omega arith) ∙ sym (bit_past cs b (length cs + j) (omega arith)))
+
+-- WORDS THAT ARE NOT USED: past the last column no card has a bit, and no place differs
+words_used : (cs : List (List Bool)) (n : ℕ) (ws : List ℕ) (used : ℕ) → WordsOf cs n ws → length cs ≤ 64 * used → WordsUsed ws used
+words_used cs n ws used s few =
+    record {
+      zero = λ c t h ht. by_lt c n
+          (λ l. s.is c t l ht ∙ omega (arith, bits_value_few 64 (λ i. bit_in cs c (64 * t + i)) 0 (λ j m. bit_past cs c (64 * t + j) (omega arith))))
+          (λ l. s.rest (4 * c + t) (omega arith));
+    }
+
+pub opened_used : (w : Wiring) (n i : ℕ) (ws : List ℕ) (k used : ℕ) → ColumnsOpened w n i ws k → k < n → k ≤ 64 * used → WordsUsed ws used
+opened_used w n i ws k used o g few = words_used (columns_opened w i) n ws used (o.words g) (omega (arith, o.count g))
+
+pub unused_part : (ws : List ℕ) (used : ℕ) → WordsUsed ws used → (a b t : ℕ) → used ≤ t → t < 4 → part_hamming ws a b t ≡ 0
+unused_part ws used u a b t h ht = rw (u.zero a t h ht, u.zero b t h ht) (hamming_same 64 (number_bit 0) (number_bit 0) (λ j l. refl))
 
 -- A LINK's ends: no differing place, no column that separates them
 abbrev pub separates : Link → List Bool → Bool

@@ -1,5 +1,5 @@
 -- Refusals in the order of their places, and what planning says from what its stages hand on. Assumes nothing.
-use mathlib.Core.Path.{◌≡◌, refl, sym, ap, ◌∙◌}
+use mathlib.Core.Path.{◌≡◌, refl, sym, ◌∙◌}
 use mathlib.Core.Bool.{true, false}
 use mathlib.Core.Logic.{◌≢◌}
 use mathlib.Core.List.{List}
@@ -10,7 +10,7 @@ use Rattle.rack.specs.Hops.{connected}
 use Rattle.rack.specs.Columns.{columns, column_count, address, Embedding, embeds}
 use Rattle.rack.specs.Refusals.{Refusal, refusal, or_else, links_refusal, reach_refusal, parity_refusal, embedding_refusal, rack_refusal}
 use Rattle.rack.specs.WiringFile.{file_wiring, sizes_fault, form_refusal, file_refusal}
-use Rattle.rack.proofs.Logic.{by_bool, by_eq}
+use Rattle.rack.proofs.Logic.{by_bool}
 use Rattle.rack.proofs.Refusals.{or_else_first, or_else_second, embeds_embedding, embedding_embeds}
 use Rattle.rack.proofs.Acceptance.{connected_refusal}
 use Rattle.survey.specs.Tables.{HopsIn}
@@ -39,14 +39,12 @@ module _ (bs : List ℕ) where
 
 -- A RACK's is that of 9, of 10 or of 11
 module _ (w : Wiring) where
-  pub refusal_of_levels : (or_else (reach_refusal w) (parity_refusal w)).number ≢ 0 → rack_refusal w ≡ or_else (reach_refusal w) (parity_refusal w)
+  pub refusal_of_reach : (reach_refusal w).number ≢ 0 → rack_refusal w ≡ reach_refusal w
   unfolding rack_refusal
-  refusal_of_levels n =
-      by_eq (reach_refusal w).number 0
-      (λ z. let e = or_else_second (reach_refusal w) (parity_refusal w) z in
-      or_else_second (reach_refusal w) (or_else (parity_refusal w) (embedding_refusal w)) z
-      ∙ or_else_first (parity_refusal w) (embedding_refusal w) (λ y. n (ap (λ (x : Refusal). x.number) e ∙ y)) ∙ sym e)
-      (λ k. or_else_first (reach_refusal w) (or_else (parity_refusal w) (embedding_refusal w)) k ∙ sym (or_else_first (reach_refusal w) (parity_refusal w) k))
+  refusal_of_reach n = or_else_first (reach_refusal w) (or_else (parity_refusal w) (embedding_refusal w)) n
+
+  pub refusal_of_parity : connected w ≡ true → (parity_refusal w).number ≢ 0 → rack_refusal w ≡ parity_refusal w
+  refusal_of_parity c n = connected_refusal w c ∙ or_else_first (parity_refusal w) (embedding_refusal w) n
 
   pub refusal_of_none : connected w ≡ true → (parity_refusal w).number ≡ 0 → (Embedding w (column_count w) (address w) → ⊥) → rack_refusal w ≡ refusal 11 0
   unfolding embedding_refusal

@@ -3,7 +3,6 @@ pub mod AddressWords
 pub mod AddedColumn
 pub mod LinkColumns
 pub mod ColumnsOpened
-pub mod PairSteps
 pub mod MeasuredPairs
 pub mod Contents
 pub mod Answers

@@ -2,30 +2,47 @@
 use mathlib.Core.Path.{◌≡◌, refl, sym, ap, subst, ◌∙◌}
 use mathlib.Core.Bool.{Bool, true}
 use mathlib.Core.List.{List}
-use Prim.Native.Nat.{ℕ, ◌≤◌, ◌<◌}
+use Prim.Native.Nat.{ℕ, ◌+◌, ◌≤◌, ◌<◌}
 use native.Mathlib.Omega.{arith}
 use lib.ListN.{length}
 use Rattle.rack.specs.Wiring.{Wiring, link_count}
-use Rattle.rack.specs.Hops.{connected}
+use Rattle.rack.specs.Hops.{hops, connected}
 use Rattle.rack.specs.WiringFile.{file_wiring}
-use Rattle.rack.specs.Columns.{columns, column_count, address, Embedding}
+use Rattle.rack.specs.Columns.{columns, column_count, address, hamming, Embedding}
+use Rattle.rack.proofs.Logic.{by_lt, by_eq}
+use Rattle.rack.proofs.Hops.{hops_self, hops_sym}
+use Rattle.rack.proofs.Hamming.{hamming_same, hamming_sym}
 use Rattle.rack.proofs.Crossing.{Rack}
 use Rattle.rack.proofs.Uniqueness.{addresses_embed}
 use Rattle.rack.proofs.FewColumns.{few_columns}
 use Rattle.rack.specs.Formed.{Formed}
-use Rattle.survey.specs.Tables.{HopsIn}
+use Rattle.survey.specs.Tables.{cell, HopsIn}
 use Rattle.survey.proofs.Forms.{formed_cards, formed_count, formed_rack}
 use Rattle.planner.specs.Stages.{Addressed}
-use Rattle.planner.specs.OpenColumns.{bit_in, columns_opened, WordsOf, ColumnsOpened, PairsMeasure}
+use Rattle.planner.specs.OpenColumns.{bit_in, columns_opened, WordsOf, ColumnsOpened, words_hamming, PairsMeasure}
 use Rattle.planner.proofs.AddressWords.{words_hamming_columns}
-use Rattle.planner.proofs.PairSteps.{measure_all}
 use Rattle.planner.proofs.ColumnsOpened.{columns_opened_all}
+
+-- CARD BY CARD
+pub no_pairs : (ws h : List ℕ) → PairsMeasure ws h 0
+no_pairs ws h = record { measured = λ a b ha hb. absurd (omega arith) }
+
+pub more_pairs : (ws h : List ℕ) (a : ℕ) → PairsMeasure ws h a → ((b : ℕ) → b < a → words_hamming ws a b ≡ cell h a b) → PairsMeasure ws h (a + 1)
+more_pairs ws h a p row = record { measured = λ x b hx hb. by_eq x a (λ (e : x ≡ a). rw e (row b (omega arith))) (λ n. p.measured x b (omega arith) hb) }
 
 -- THE PAIRS of cards measure exactly if the columns are an embedding
 module _ (w : Wiring) (cs : List (List Bool)) (ws h : List ℕ) (s : WordsOf cs w.cards ws) (few : length cs ≤ 256) (t : HopsIn w h) where
   pairs_embed : PairsMeasure ws h w.cards → Embedding w (length cs) (bit_in cs)
-  pairs_embed p a b ha hb =
-      sym (words_hamming_columns cs w.cards ws s few a b ha hb) ∙ measure_all w w.cards refl ws h t p a b ha hb ∙ t.is a b ha hb
+  pairs_embed p a b ha hb = by_lt b a (lower a b ha) (λ u. by_eq a b diagonal (λ n. upper (omega arith)))
+    where
+      lower : (a b : ℕ) → a < w.cards → b < a → hamming (length cs) (bit_in cs a) (bit_in cs b) ≡ hops w a b
+      lower a b ha hb = sym (words_hamming_columns cs w.cards ws s few a b ha (omega arith)) ∙ p.measured a b ha hb ∙ t.is a b ha (omega arith)
+
+      upper : a < b → hamming (length cs) (bit_in cs a) (bit_in cs b) ≡ hops w a b
+      upper u = hamming_sym (length cs) (bit_in cs a) (bit_in cs b) ∙ lower b a hb u ∙ hops_sym w b a hb ha
+
+      diagonal : a ≡ b → hamming (length cs) (bit_in cs a) (bit_in cs b) ≡ hops w a b
+      diagonal e = rw e (hamming_same (length cs) (bit_in cs b) (bit_in cs b) (λ j l. refl) ∙ sym (hops_self w b))
 
   embed_pairs : Embedding w (length cs) (bit_in cs) → PairsMeasure ws h w.cards
   embed_pairs m =

@@ -9,10 +9,9 @@ use lib.ListN.{length}
 use Rattle.rack.specs.Wiring.{Wiring}
 use Rattle.rack.specs.Hops.{connected}
 use Rattle.rack.specs.Columns.{columns}
-use Rattle.rack.specs.Refusals.{Refusal, refusal, or_else, links_refusal, reach_refusal, parity_refusal, rack_refusal}
+use Rattle.rack.specs.Refusals.{Refusal, refusal, links_refusal, reach_refusal, parity_refusal, rack_refusal}
 use Rattle.rack.specs.Buffers.{number_at}
 use Rattle.rack.specs.WiringFile.{file_wiring, sizes_fault, file_refusal}
-use Rattle.rack.proofs.Refusals.{or_else_clear}
 use Rattle.rack.proofs.Acceptance.{reach_clear}
 use Rattle.rack.specs.Formed.{Formed}
 use Rattle.survey.specs.Refusing.{RefusedIs}
@@ -24,34 +23,40 @@ use Rattle.survey.specs.declared.links.Refused.{Refused}
 use Rattle.planner.specs.Planning.{Refuses}
 use Rattle.planner.specs.declared.Answer.{Answer}
 use Rattle.survey.proofs.Forms.{sizes_are, formed}
-use Rattle.planner.proofs.Answers.{refusal_of_sizes, refusal_of_links, refusal_of_rack, refusal_of_levels}
+use Rattle.planner.proofs.Answers.{refusal_of_sizes, refusal_of_links, refusal_of_rack, refusal_of_reach, refusal_of_parity}
 use Rattle.planner.proofs.Answers.{refusal_of_none, refusal_of_embedding, planned_refused, planned_found}
 
 -- A RACK: 9, 10, 11, or its plan
 pub refusal_of_refused : (g : Refused) (f : Refusal) → RefusedIs g f → f ≡ refusal g.number g.at
 refusal_of_refused g f i = ap₂ refusal (sym i.number) (sym i.at)
 
-pub levels_clear : (w : Wiring) (g : Refused) → RefusedIs g (or_else (reach_refusal w) (parity_refusal w)) → g.number ≡ 0
-    → (connected w ≡ true) × ((parity_refusal w).number ≡ 0)
-levels_clear w g i z = let c = or_else_clear (reach_refusal w) (parity_refusal w) (sym i.number ∙ z) in (reach_clear w c.0, c.1)
+pub reached : (w : Wiring) (g : Refused) → RefusedIs g (reach_refusal w) → g.number ≡ 0 → connected w ≡ true
+reached w g i z = reach_clear w (sym i.number ∙ z)
 
-module _ (w : Wiring) (r : Answer) (ws h : List ℕ) where
-  pub levels_planned : (g : Refused) → RefusedIs g (or_else (reach_refusal w) (parity_refusal w)) → g.number ≢ 0 → Refuses g.number g.at r
+module _ (w : Wiring) (g : Refused) (r : Answer) (ws h : List ℕ) where
+  pub unreached_planned : RefusedIs g (reach_refusal w) → g.number ≢ 0 → Refuses g.number g.at r
       → length ws ≡ lent_words → length h ≡ lent_hops → RackPlanned w r ws h
-  levels_planned g i n =
+  unreached_planned i n =
       planned_refused (rack_refusal w) w r ws h g.number g.at
-      (refusal_of_levels w (λ z. n (i.number ∙ z)) ∙ refusal_of_refused g (or_else (reach_refusal w) (parity_refusal w)) i) n
+      (refusal_of_reach w (λ z. n (i.number ∙ z)) ∙ refusal_of_refused g (reach_refusal w) i) n
 
-  module _ (c : connected w ≡ true) (z : (parity_refusal w).number ≡ 0) where
-    pub none_planned : (n k : ℕ) → k ≡ n → Addressed w n ws k → Refuses 11 0 r
+  module _ (c : connected w ≡ true) (i : RefusedIs g (parity_refusal w)) where
+    pub odd_planned : g.number ≢ 0 → Refuses g.number g.at r
         → length ws ≡ lent_words → length h ≡ lent_hops → RackPlanned w r ws h
-    none_planned n k e a = planned_refused (rack_refusal w) w r ws h 11 0 (refusal_of_none w c z (a.none e)) (λ z. omega arith)
+    odd_planned n =
+        planned_refused (rack_refusal w) w r ws h g.number g.at
+        (refusal_of_parity w c (λ z. n (i.number ∙ z)) ∙ refusal_of_refused g (parity_refusal w) i) n
 
-    pub found_planned : (n k : ℕ) → n ≡ w.cards → k < n → Addressed w n ws k → HopsIn w h
+    pub none_planned : (n k : ℕ) → g.number ≡ 0 → k ≡ n → Addressed w n ws k → Refuses 11 0 r
+        → length ws ≡ lent_words → length h ≡ lent_hops → RackPlanned w r ws h
+    none_planned n k z e a =
+        planned_refused (rack_refusal w) w r ws h 11 0 (refusal_of_none w c (sym i.number ∙ z) (a.none e)) (λ z. omega arith)
+
+    pub found_planned : (n k : ℕ) → n ≡ w.cards → g.number ≡ 0 → k < n → Addressed w n ws k → HopsIn w h
         → r ≡ record { number = 0; at = 0; value = k } → RackPlanned w r ws h
-    found_planned n k cards l a t e =
+    found_planned n k cards z l a t e =
         rw e
-        (planned_found (rack_refusal w) w _ ws h (refusal_of_embedding w c z (a.embedding l)) refl refl (a.count l)
+        (planned_found (rack_refusal w) w _ ws h (refusal_of_embedding w c (sym i.number ∙ z) (a.embedding l)) refl refl (a.count l)
         (subst (λ (v : ℕ). WordsOf (columns w) v ws) cards (a.words l)) t)
 
 -- A FILE: 2 to 8, or as its rack

@@ -25,14 +25,14 @@ use Rattle.rack.specs.Formed.{SizesAre}
 use Rattle.planner.specs.OpenColumns.{bit_in, WordsOf}
 use Rattle.planner.specs.Stages.{FilePlanned}
 use Rattle.rack.specs.Limits.{lent_plan, most_columns}
-use Rattle.planner.specs.Planning.{left_in, writing_refusal, Refuses, WriteSays}
+use Rattle.planner.specs.Planning.{writing_refusal, Refuses, WriteSays}
 use Rattle.plan_writer.specs.Writing.{end_pair, word_byte, written_bytes}
 use Rattle.planner.specs.declared.Answer.{Answer}
 use Rattle.planner.proofs.Answers.{refusal_of_rack}
 use Rattle.planner.proofs.PlanAnswer.{file_not_one, left_untouched, left_filled, left_zero, accepted_columns}
 
 -- THE ENDS
-pub ends_written : (bs : List ℕ) → blocks (2 * number_at bs 2) (end_pair bs) ≡ end_bytes (file_wiring bs)
+ends_written : (bs : List ℕ) → blocks (2 * number_at bs 2) (end_pair bs) ≡ end_bytes (file_wiring bs)
 unfolding end_bytes
 ends_written bs =
     let m = number_at bs 2 in
@@ -94,33 +94,6 @@ write_says_one bs r o t a =
       output_left = rw a.number (sym (left_untouched (plan_bytes (file_wiring bs)) o));
     }
 
--- WRITING the plan of an accepted file into a buffer of its length
-pub write_says_accepted : (bs o out : List ℕ) (v : ℕ) → length o ≡ lent_plan → (file_refusal bs).number ≡ 0 → length out ≡ length o
-    → Written out (plan_bytes (file_wiring bs)) → v ≡ length (plan_bytes (file_wiring bs)) → WriteSays bs (record { number = 0; at = 0; value = v }) o out
-unfolding writing_refusal
-write_says_accepted bs o out v lo accepted l w e =
-    record {
-      answer = rw (eq-eqb (length o) lent_plan lo)
-          (record {
-            number = sym accepted;
-            at = sym (at_zero bs accepted);
-            value = e ∙ sym (rw (eq-eqb (file_refusal bs).number 0 accepted) refl);
-          });
-      output_left = left_filled 0 (plan_bytes (file_wiring bs)) o out refl l w.is;
-    }
-
--- what was in a buffer of its length does not matter
-pub write_says_over : (bs : List ℕ) (r : Answer) (old o out : List ℕ) → length old ≡ length o → length o ≡ lent_plan → WriteSays bs r old out → WriteSays bs r o out
-unfolding writing_refusal left_in
-write_says_over bs r old o out l lo says =
-    record {
-      answer = rw l at says.answer;
-      output_left = rw (ne_eqb r.number 1 not_one, l) at says.output_left ∙ sym (rw (ne_eqb r.number 1 not_one) refl);
-    }
-  where
-    not_one : r.number ≢ 1
-    not_one e = file_not_one bs (sym (rw (l, eq-eqb (length o) lent_plan lo) at says.answer.number) ∙ e)
-
 -- WRITING into a buffer of its length, after planning
 module _ (bs : List ℕ) (r : Answer) (ws h o : List ℕ) (lo : length o ≡ lent_plan) (p : FilePlanned bs r ws h) where
   pub write_says_refused : (out : List ℕ) → r.number ≢ 0 → out ≡ replicate (length o) 0 → WriteSays bs r o out
@@ -155,6 +128,16 @@ module _ (bs : List ℕ) (r : Answer) (ws h o : List ℕ) (lo : length o ≡ len
 
     pub write_says_found : (out : List ℕ) (v : ℕ) → length out ≡ length o → Written out (written_bytes bs ws r.value) → v ≡ length (written_bytes bs ws r.value)
         → WriteSays bs (record { number = 0; at = 0; value = v }) o out
+    unfolding writing_refusal
     write_says_found out v l w e =
         let same = plan_bytes_written bs ws r.value (p.value z) columns_few (p.words z) in
-        write_says_accepted bs o out v lo accepted l (rw same at w) (e ∙ ap length same)
+        record {
+          answer = rw (eq-eqb (length o) lent_plan lo)
+              (record {
+                number = sym accepted;
+                at = sym (at_zero bs accepted);
+                value = e ∙ ap length same ∙ sym
+                    (rw (eq-eqb (file_refusal bs).number 0 accepted) refl);
+              });
+          output_left = left_filled 0 (plan_bytes (file_wiring bs)) o out refl l (rw same at w.is);
+        }

@@ -1,7 +1,6 @@
 pub mod PlanBytes
 pub mod Words
 pub mod OpenColumns
-pub mod PairSteps
 pub mod Stages
 pub mod Planning
 pub mod Promises

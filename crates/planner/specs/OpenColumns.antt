@@ -40,9 +40,9 @@ pub record ColumnsOpened (w : Wiring) (n i : ℕ) (ws : List ℕ) (k : ℕ) : Ty
   pub words : k < n → WordsOf (columns_opened w i) n ws
   pub full : k ≡ n → n ≤ length (columns_opened w i)
 
--- the side of card c at a link p-q, from the two cards' rows of hops: 1 in the set without card 0
+-- the side of card c at a link p-q, from a table of hops: 1 in the set without card 0
 unfoldable pub side_in : List ℕ → (p q c : ℕ) → Bool
-side_in h p q c = differ (ltb (cell h p c) (cell h q c)) (ltb (cell h 0 p) (cell h 0 q))
+side_in h p q c = differ (ltb (cell h c p) (cell h c q)) (ltb (cell h 0 p) (cell h 0 q))
 
 -- the words of the cards before `upto` have the side of a link p-q added as column k
 pub record ColumnAdded (h old new : List ℕ) (p q k upto : ℕ) : Type 0 where
@@ -61,6 +61,10 @@ words_hamming ws a b = hamming 256 (word_bit ws a) (word_bit ws b)
 -- the words of two cards are equal
 abbrev pub SameWords : List ℕ → (a b : ℕ) → Type 0
 SameWords ws a b = (t : ℕ) → t < 4 → get_or ws (4 * a + t) 0 ≡ get_or ws (4 * b + t) 0
+
+-- no card has a bit in the words from `used` on
+pub record WordsUsed (ws : List ℕ) (used : ℕ) : Type 0 where
+  pub zero : (c t : ℕ) → used ≤ t → t < 4 → get_or ws (4 * c + t) 0 ≡ 0
 
 -- every pair of cards b < a < upto has as many differing places as the table of hops says
 pub record PairsMeasure (ws h : List ℕ) (upto : ℕ) : Type 0 where

@@ -1,11 +1,11 @@
 // Columns and the words of the addresses: a link opens a column where its ends have the same address so far.
-ghost use Rattle.std.specs.Prelude.{◌≡◌, true, false, cond, ℕ, ◌+◌, ◌*◌, ◌/◌, ◌%◌, ◌^◌, ◌<◌, ◌≤◌, ltb, length, get_or, replicate};
+ghost use Rattle.std.specs.Prelude.{◌≡◌, true, false, ℕ, ◌+◌, ◌*◌, ◌/◌, ◌%◌, ◌^◌, ◌<◌, ◌≤◌, length, get_or, replicate};
 ghost use Rattle.rack.specs.Limits.{lent_hops, lent_words, most_cards, most_columns};
-ghost use Rattle.rack.specs.Lists.{differ, one};
+ghost use Rattle.rack.specs.Lists.{one};
 ghost use Rattle.rack.specs.WiringFile.{file_wiring};
 ghost use Rattle.rack.specs.Formed.{Formed};
-ghost use Rattle.survey.specs.Tables.{cell, HopsIn};
-ghost use Rattle.planner.specs.OpenColumns.{ColumnAdded, ColumnsOpened, SameWords};
+ghost use Rattle.survey.specs.Tables.{HopsIn};
+ghost use Rattle.planner.specs.OpenColumns.{ColumnAdded, ColumnsOpened, SameWords, side_in};
 
 use rack::bytes::{first_end, second_end};
 use rack::limits::MOST_CARDS;
@@ -26,27 +26,21 @@ fn words_differ(words: &[u64], a: usize, b: usize) -> bool
     false
 }
 
-// What the cards nearer to `p` than to `q` have in the column of a link from `p` to `q`: `weight` where card 0 is not one of them, else 0.
-fn near_weight(hops: &[u8], p: usize, q: usize, weight: u64) -> u64
-    requires { (length hops.now ≡ lent_hops) × (p < most_cards) × (q < most_cards) }
-    ensures is { result ≡ one (differ true (ltb (cell hops.now 0 p) (cell hops.now 0 q))) * weight }
-    ensures most { result ≤ weight }
-{
-    if hops[p] < hops[q] {
-        return 0;
-    }
-    weight
-}
-
-// `near` where card `c` is nearer to `p` than to `q`, else `far`: read in the rows of the two, as hops are the same both ways.
-fn side_weight(hops: &[u8], p: usize, q: usize, c: usize, near: u64, far: u64) -> u64
+// `weight` where card `c` is in the set without card 0 at a link from `p` to `q`, else 0.
+fn side_weight(hops: &[u8], p: usize, q: usize, c: usize, weight: u64) -> u64
     requires { (length hops.now ≡ lent_hops) × (p < most_cards) × (q < most_cards) × (c < most_cards) }
-    ensures { result ≡ cond (ltb (cell hops.now p c) (cell hops.now q c)) near far }
+    ensures { result ≡ one (side_in hops.now p q c) * weight }
 {
-    if hops[MOST_CARDS * p + c] < hops[MOST_CARDS * q + c] {
-        return near;
+    if hops[MOST_CARDS * c + p] < hops[MOST_CARDS * c + q] {
+        if hops[p] < hops[q] {
+            return 0;
+        }
+        return weight;
     }
-    far
+    if hops[p] < hops[q] {
+        return weight;
+    }
+    0
 }
 
 // Adds column `k`, that of a link from `p` to `q`, to the words of the `n` cards.
@@ -56,11 +50,9 @@ fn add_column(hops: &[u8], n: usize, p: usize, q: usize, k: usize, words: &mut [
 {
     let word = k / 64;
     let weight = 1u64 << (k % 64);
-    let near = near_weight(hops, p, q, weight);
-    let far = weight - near;
     let mut c: usize = 0;
     while c < n {
-        words[4 * c + word] = words[4 * c + word] + side_weight(hops, p, q, c, near, far);
+        words[4 * c + word] = words[4 * c + word] + side_weight(hops, p, q, c, weight);
         c += 1;
     }
 }

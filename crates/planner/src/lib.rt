@@ -9,15 +9,13 @@
 // links are taken in rising order, and one opens its column where its ends have the same address so far; an n-th column is one too many.
 // Whether the sets are convex is not asked: as Eppstein does (docs/REQUIREMENTS.md, Literature), all pairs of cards are tested at the end. If
 // all differ in as many places as they are hops apart, these are the addresses; if not, the rack has none, and 11 is said.
-// The tests of 2 to 10 and the hops are those of the crate survey; 9 and 10 need the hops from card 0 alone, and are said before all hops
-// are made.
+// The tests of 2 to 10 and the hops are those of the crate survey.
 #![tactic(auto)]
 
 ghost use Rattle.std.specs.Prelude.{◌≡◌, true, length, replicate};
 ghost use Rattle.rack.specs.Limits.{lent_hops, lent_words};
 ghost use Rattle.rack.specs.Hops.{connected};
 ghost use Rattle.rack.specs.WiringFile.{file_wiring};
-ghost use Rattle.rack.specs.Refusals.{parity_refusal};
 ghost use Rattle.rack.specs.Formed.{Formed};
 ghost use Rattle.survey.specs.Tables.{HopsIn};
 ghost use Rattle.planner.specs.Stages.{Addressed, FilePlanned, RackPlanned};
@@ -26,14 +24,14 @@ ghost use Rattle.planner.specs.Planning.{AddressesFound, Asked, AskedToWrite, Pl
 use columns::open_columns;
 use counting::ones::ones_table;
 use link_order::link_order;
-use pairs::pairs_measure;
+use pairs::{pairs_measure, words_used};
 use plan_writer::put_plan;
 use rack::bytes::number_at;
 use rack::fill::{clear_bytes, clear_words};
 use rack::limits::{LENT_HOPS, LENT_PLAN, LENT_WORDS};
-use survey::hops::all_hops;
-use survey::levels::levels_refusal;
+use survey::hops::{all_hops, parity_refusal};
 use survey::links::{links_refusal, sizes_fault};
+use survey::reach::reach_refusal;
 
 pub mod columns;
 pub mod pairs;
@@ -67,17 +65,21 @@ fn address_cards(file: &[u8], n: usize, m: usize, hops: &[u8], words: &mut [u64]
         return n;
     }
     let ones = ones_table();
-    if pairs_measure(&ones, file, n, m, hops, words) {
+    if pairs_measure(&ones, words, words_used(k), hops, n) {
         return k;
     }
     n
 }
 
-// 11 of a connected rack without odd loops, with its hops, or its addresses in words that are zero at entry.
+// 10 or 11 of a connected rack with its hops, or its addresses in words that are zero at entry.
 fn plan_connected(file: &[u8], n: usize, m: usize, words: &mut [u64], hops: &[u8]) -> Answer
-    requires { Formed file.now n m × (connected (file_wiring file.now) ≡ true) × ((parity_refusal (file_wiring file.now)).number ≡ 0) × HopsIn (file_wiring file.now) hops.now × (words.old ≡ replicate lent_words 0) }
+    requires { Formed file.now n m × (connected (file_wiring file.now) ≡ true) × HopsIn (file_wiring file.now) hops.now × (words.old ≡ replicate lent_words 0) }
     ensures { RackPlanned (file_wiring file.now) result words.new hops.now }
 {
+    let f = parity_refusal(file, n, m, hops);
+    if f.number != 0 {
+        return refused(f.number, f.at);
+    }
     let k = address_cards(file, n, m, hops, words);
     if k == n {
         return refused(11, 0);
@@ -95,7 +97,7 @@ fn plan_formed(file: &[u8], n: usize, m: usize, words: &mut [u64], hops: &mut [u
     ensures { RackPlanned (file_wiring file.now) result words.new hops.new }
 {
     let order = link_order(file, n, m);
-    let f = levels_refusal(file, n, m, &order);
+    let f = reach_refusal(file, n, m, &order, hops);
     if f.number != 0 {
         return refused(f.number, f.at);
     }
@@ -143,8 +145,8 @@ pub fn plan_rack(file: &[u8], words: &mut [u64], hops: &mut [u8]) -> Answer
     answer
 }
 
-// Writes the plan file of a rack that is planned from its hops, or a refusal; the value is the used length.
-pub fn write_by_hops(file: &[u8], output: &mut [u8]) -> Answer
+// Writes the plan file of a rack, or a refusal; the value is the used length.
+pub fn write_plan(file: &[u8], output: &mut [u8]) -> Answer
     ensures says { WriteSays file.now result output.old output.new }
     ensures found { AskedToWrite file.now output.old → PlanFound (file_wiring file.now) result output.new }
 {

@@ -4,6 +4,6 @@ pub mod Addresses
 pub mod Promises
 pub mod Measured
 pub mod Parts
-pub mod Tested
+pub mod InnerFile
 pub mod ReadAnswer
 pub mod AddressPart

@@ -24,7 +24,7 @@ use Rattle.reader.specs.Plan.{layout_holds, content_holds, plan_refusal}
 use Rattle.reader.specs.Reading.{LaidOut, SizesSay}
 use Rattle.reader.specs.declared.layout.Sizes.{Sizes}
 
--- THE LAYOUT: the test holds exactly with the facts of `LaidOut`, at the sizes that the plan has
+-- THE LAYOUT: the test holds exactly with the facts of `Laid_out`, at the sizes that the plan has
 abbrev pub Layout : List ℕ → Type 0
 Layout ps = LaidOut ps (record { number = 0; cards = plan_cards ps; links = plan_links ps; columns = plan_columns ps })
 

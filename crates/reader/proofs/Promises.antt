@@ -25,9 +25,9 @@ use Rattle.counting.proofs.Bytes.{hamming_table}
 use Rattle.planner.specs.PlanBytes.{plan_bytes}
 use Rattle.planner.specs.Planning.{left_in, writing_refusal, WriteSays}
 use Rattle.planner.specs.declared.Answer.{Answer}
-use Rattle.planner.proofs.PlanBytes.{written_columns, written_byte, written_byte_bit, written_bit}
+use Rattle.planner.proofs.PlanBytes.{written_links, written_columns, written_byte, written_bit}
 use Rattle.rack.specs.PlanFile.{plan_cards, plan_columns, plan_wiring, bit_from, plan_bit, plan_hamming, address_size, address_start}
-use Rattle.rack.proofs.Bits.{bits_value_fits}
+use Rattle.rack.proofs.Bits.{bits_value_number, bits_value_fits}
 use Rattle.rack.proofs.PlanFile.{address_size_is}
 use Rattle.reader.specs.Plan.{plan_refusal}
 use Rattle.reader.specs.Promises.{ReadExactly, CallsAgree, LayoutInRange, AddressFits, Measured, ReaderPromise, HopsByTable, RefusedAddressEmpty}
@@ -38,6 +38,20 @@ use Rattle.reader.proofs.Plan.{Layout, layout_of, layout_facts, facts_layout, pl
 use Rattle.reader.proofs.AddressPart.{refused_before, card_outside, card_inside, clear_card, refused_part, clear_part}
 use Rattle.reader.proofs.Addresses.{address_counted}
 use Rattle.reader.proofs.Parts.{length_part}
+
+-- a bit of any byte of an address in the planner's plan
+module _ (w : Wiring) (links_fit : link_count w < 65536) (columns_fit : column_count w < 65536) where
+  written_byte_bit : (c j : ℕ) → c < w.cards → j / 8 < address_size (column_count w) → plan_bit (plan_bytes w) c j ≡ address w c j
+  unfolding bit_from plan_bit
+  written_byte_bit c j hc hj =
+      let e : 8 * (j / 8) + j % 8 ≡ j = omega arith in
+      rw (
+        written_links w links_fit,
+        written_columns w columns_fit,
+        written_byte w c (j / 8) hc hj,
+        bits_value_number 8 (λ i. address w c (8 * (j / 8) + i)) (j % 8) (omega arith),
+        e,
+      ) refl
 
 -- A PLAN THAT WAS READ has an accepted wiring inside, and is its plan
 module _ (ps : List ℕ) (h : plan_refusal ps ≡ 0) where

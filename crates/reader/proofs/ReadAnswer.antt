@@ -1,17 +1,31 @@
--- What reading says: 12 from the layout, 13 or 0 from the content. Assumes nothing.
-use mathlib.Core.Path.{◌≡◌, sym, ◌∙◌}
-use mathlib.Core.Bool.{true, false}
+-- What reading says: 12 from the layout, 13 or 0 from what the planner writes for the wiring file inside. Assumes nothing.
+use mathlib.Core.Path.{◌≡◌, refl, sym, ap, ◌∙◌}
+use mathlib.Core.Bool.{Bool, true, false}
 use mathlib.Core.Logic.{◌≢◌}
-use mathlib.Core.List.{List}
-use Prim.Native.Nat.{ℕ}
+use mathlib.Core.List.{List, ◌++◌}
+use Prim.Native.Nat.{ℕ, ◌-◌, ◌≤◌}
 use native.Mathlib.Omega.{arith}
-use Rattle.rack.proofs.Logic.{by_bool}
+use lib.Dec.{eqb}
+use lib.ListN.{length, take, replicate, length-append}
+use lib.Seq.{take_at}
+use borrow.Author.Tests.{eqb-true, eq-eqb, ne_eqb}
+use Rattle.rack.specs.Lists.{same}
+use Rattle.rack.specs.Refusals.{Refusal, wiring_refusal}
+use Rattle.rack.proofs.Logic.{by_bool, not_true_false}
+use Rattle.rack.proofs.Lists.{same_eq}
+use Rattle.planner.specs.PlanBytes.{plan_bytes}
+use Rattle.rack.specs.Limits.{lent_plan}
+use Rattle.planner.specs.Planning.{left_in, writing_refusal, WriteSays}
+use Rattle.planner.specs.declared.Answer.{Answer}
+use Rattle.rack.specs.PlanFile.{plan_wiring}
 use Rattle.reader.specs.Plan.{layout_holds, content_holds, plan_refusal}
 use Rattle.reader.specs.Promises.{Measured}
 use Rattle.reader.specs.Reading.{SizesSay, no_sizes, layout_refusal, LayoutSays, ReadSays}
 use Rattle.reader.specs.declared.layout.Sizes.{Sizes}
+use Rattle.reader.proofs.Plan.{layout_facts}
 use Rattle.reader.proofs.Promises.{read_measured}
 use Rattle.reader.proofs.Reading.{no_sizes_say, says_layout}
+use Rattle.reader.proofs.InnerFile.{inner_file, inner_wiring, inner_refusal}
 
 module _ (ps : List ℕ) (r : Sizes) (s : LayoutSays ps r) where
   -- 12
@@ -30,6 +44,57 @@ module _ (ps : List ℕ) (r : Sizes) (s : LayoutSays ps r) where
 pub read_says_content : (ps : List ℕ) (r : Sizes) → layout_holds ps ≡ true → content_holds ps ≡ false → r ≡ no_sizes 13 → ReadSays ps r
 unfolding plan_refusal
 read_says_content ps r l h e = rw (l, h) (no_sizes_say ps 13 r (λ z. omega arith) e)
+
+-- what the planner answered for the wiring file inside, and what it left in a buffer
+pub record InnerWritten (ps : List ℕ) (a : Answer) (old out : List ℕ) : Type 0 where
+  pub layout : layout_holds ps ≡ true
+  pub room : length old ≡ lent_plan
+  pub says : WriteSays (inner_file ps) a old out
+
+module _ (ps : List ℕ) (a : Answer) (o out : List ℕ) (w : InnerWritten ps a o out) where
+  abbrev plan : List ℕ
+  plan = plan_bytes (plan_wiring ps)
+
+  inner_number : a.number ≡ (wiring_refusal (plan_wiring ps)).number
+  unfolding writing_refusal
+  inner_number =
+      w.says.answer.number
+      ∙ rw (eq-eqb (length o) lent_plan w.room) (ap (λ (f : Refusal). f.number) (inner_refusal ps (layout_facts ps w.layout)))
+
+  pub content_refused : a.number ≢ 0 → content_holds ps ≡ false
+  unfolding content_holds
+  content_refused n = rw (ne_eqb (wiring_refusal (plan_wiring ps)).number 0 (λ e. n (inner_number ∙ e))) refl
+
+  -- an accepted wiring: the length and the bytes decide
+  module _ (z : a.number ≡ 0) where
+    bytes_decide : content_holds ps ≡ same eqb plan ps
+    unfolding content_holds
+    bytes_decide = rw (eq-eqb (wiring_refusal (plan_wiring ps)).number 0 (sym inner_number ∙ z)) refl
+
+    length_answered : a.value ≡ length plan
+    unfolding writing_refusal
+    length_answered =
+        w.says.answer.value
+        ∙ rw (
+          eq-eqb (writing_refusal (inner_file ps) (length o)).number 0 (sym w.says.answer.number ∙ z),
+          inner_wiring ps (layout_facts ps w.layout),
+        ) refl
+
+    written : out ≡ plan ++ replicate (length o - length plan) 0
+    unfolding left_in
+    written = w.says.output_left ∙ rw (z, inner_wiring ps (layout_facts ps w.layout)) refl
+
+    pub content_room : a.value ≡ length ps → length ps ≤ length out
+    content_room e = omega (arith, length_answered, ap length written, length-append plan (replicate (length o - length plan) 0))
+
+    pub content_other_length : a.value ≢ length ps → content_holds ps ≡ false
+    content_other_length n =
+        bytes_decide ∙ not_true_false (same eqb plan ps) (λ t. n (length_answered ∙ ap length (same_eq eqb eqb-true plan ps t)))
+
+    pub content_as_compared : a.value ≡ length ps → (t : Bool) → t ≡ same eqb (take (length ps) out) ps → content_holds ps ≡ t
+    content_as_compared e t g =
+        bytes_decide ∙ sym (g ∙ ap (λ (xs : List ℕ). same eqb xs ps)
+        (ap (take (length ps)) written ∙ take_at plan (replicate (length o - length plan) 0) (length ps) (sym length_answered ∙ e)))
 
 -- what the forwarder may lean on
 pub read_promise : (ps : List ℕ) (r : Sizes) → ReadSays ps r → r.number ≡ 0 → Measured ps

@@ -4,4 +4,3 @@
 pub mod layout;
 pub mod places;
 pub mod read;
-pub mod tests;

@@ -1,25 +1,71 @@
-// Reading a plan: refusal 13, by the tests of the plan by itself; and a card's address.
-ghost use Rattle.std.specs.Prelude.{◌≡◌};
-ghost use Rattle.rack.specs.PlanFile.{plan_cards};
-ghost use Rattle.reader.specs.Plan.{content_holds};
+// Reading a plan: refusal 13, by comparison with the plan that the planner writes for the wiring inside; and a card's address.
+ghost use Rattle.std.specs.Prelude.{◌≡◌, ◌+◌, ◌*◌, ◌≤◌, eqb, true, ◌++◌, length, take, drop, replicate};
+ghost use Rattle.rack.specs.Lists.{same};
+ghost use Rattle.rack.specs.Buffers.{Appends};
+ghost use Rattle.rack.specs.Limits.{most_links};
+ghost use Rattle.rack.specs.PlanFile.{plan_cards, plan_links};
+ghost use Rattle.reader.specs.Plan.{content_holds, layout_holds};
 ghost use Rattle.reader.specs.Promises.{Measured};
 ghost use Rattle.reader.specs.Reading.{ReadSays, LaidOut, PartIs, card_refusal, AddressSays, address_refusal};
 
 use crate::layout::{Sizes, no_sizes, plan_layout};
-use crate::tests::tests_hold;
+use planner::write_plan;
+use rack::limits::{LENT_PLAN, MOST_LINKS};
 use rack::plan_file::{address_size, address_start};
 
-// Whether a plan has the content that the planner writes for the wiring inside: it passes the tests.
-fn content_holds(plan: &[u8], sizes: Sizes) -> bool
-    requires { LaidOut plan.now sizes }
+// Appends `count` bytes of a plan, from `start` on, to a buffer that is written up to `at`.
+pub fn copy_part(plan: &[u8], start: usize, count: usize, output: &mut [u8], at: usize)
+    requires { (start + count ≤ length plan.now) × (at + count ≤ length output.old) }
+    ensures { Appends at output.old output.new (take count (drop start plan.now)) }
+{
+    let mut i: usize = 0;
+    while i < count {
+        output[at + i] = plan[start + i];
+        i += 1;
+    }
+}
+
+// Whether `written` begins with the bytes of `plan`.
+fn begins_with(written: &[u8], plan: &[u8]) -> bool
+    requires { length plan.now ≤ length written.now }
+    ensures { result ≡ same eqb (take (length plan.now) written.now) plan.now }
+{
+    let mut i: usize = 0;
+    while i < plan.len() {
+        if written[i] != plan[i] {
+            return false;
+        }
+        i += 1;
+    }
+    true
+}
+
+// The wiring file inside a plan: its first 4 bytes, and `ends` bytes from byte 6 on. The buffer is zero at entry.
+fn inner_file(plan: &[u8], ends: usize, file: &mut [u8])
+    requires { (6 + ends ≤ length plan.now) × (ends ≤ 4 * most_links) × (file.old ≡ replicate (4 + 4 * most_links) 0) }
+    ensures { take (4 + ends) file.new ≡ take 4 (drop 0 plan.now) ++ take ends (drop 6 plan.now) }
+{
+    copy_part(plan, 0, 4, file, 0);
+    copy_part(plan, 6, ends, file, 4);
+}
+
+// Whether a plan with `m` links has the content that the planner writes for the wiring inside.
+fn content_holds(plan: &[u8], m: usize) -> bool
+    requires { (layout_holds plan.now ≡ true) × (m ≡ plan_links plan.now) }
     ensures { result ≡ content_holds plan.now }
 {
-    tests_hold(
-        plan,
-        sizes.cards as usize,
-        sizes.links as usize,
-        sizes.columns as usize,
-    )
+    let mut file = [0u8; 4 + 4 * MOST_LINKS];
+    inner_file(plan, 4 * m, &mut file);
+    let mut written = [0u8; LENT_PLAN];
+    let size = 4 + 4 * m;
+    let answer = write_plan(&file[0..size], &mut written);
+    if answer.number != 0 {
+        return false;
+    }
+    if answer.value as usize != plan.len() {
+        return false;
+    }
+    begins_with(&written, plan)
 }
 
 // Reads a plan: 12, 13, or its three sizes.
@@ -31,7 +77,7 @@ pub fn read_plan(plan: &[u8]) -> Sizes
     if sizes.number != 0 {
         return sizes;
     }
-    if content_holds(plan, sizes) {
+    if content_holds(plan, sizes.links as usize) {
         return sizes;
     }
     no_sizes(13)

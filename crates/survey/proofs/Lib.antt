@@ -1,8 +1,7 @@
 pub mod Forms
 pub mod Marks
-pub mod Bounds
+pub mod Flags
 pub mod Rows
 pub mod Passes
 pub mod FirstBounds
-pub mod CardLevels
-pub mod LevelRefusals
+pub mod Levels

@@ -1,92 +1,110 @@
--- Sweeps over the links joined, a search for a loose link, and lowering by one link; hops where no link is loose. Assumes nothing.
-use mathlib.Core.Path.{◌≡◌, ◌∙◌}
-use mathlib.Core.Logic.{◌≢◌}
+-- Passes over the links: what lowering by one link does, passes joined, and hops where a pass lowers nothing. Assumes nothing.
+use mathlib.Core.Path.{◌≡◌, refl, ap, subst, ◌∙◌}
+use mathlib.Core.Bool.{true}
+use mathlib.Core.Logic.{inl, inr}
 use mathlib.Core.List.{List}
-use Prim.Native.Nat.{ℕ, ◌≤◌, ◌<◌}
+use Prim.Native.Nat.{ℕ, zero, suc, ◌+◌, ◌≤◌, ◌<◌, max}
 use native.Mathlib.Omega.{arith}
-use Rattle.rack.specs.Wiring.{link_at}
+use Rattle.rack.specs.Wiring.{Link, Wiring, link, link_count, link_at, linked}
+use Rattle.rack.specs.Hops.{has_path, hops}
 use Rattle.rack.specs.WiringFile.{file_wiring}
+use Rattle.rack.proofs.Logic.{by_lt}
+use Rattle.rack.proofs.Lists.{In, getD_in}
+use Rattle.rack.proofs.Paths.{Ends, linked_link, linked_sym, path_next, path_zero}
+use Rattle.rack.proofs.Hops.{hops_path, hops_triangle, hops_linked}
 use Rattle.rack.specs.Formed.{Formed}
-use Rattle.rack.proofs.Logic.{by_eq}
 use Rattle.survey.specs.Tables.{cell, HopsIn}
-use Rattle.survey.specs.Lowering.{Above, Bounds, FirstLoose, LinkLowered, Loose, RowsApart, RowsLowered, Swept, Tight, Tightened}
-use Rattle.survey.proofs.Bounds.{lowered_bounds, tight_hops}
+use Rattle.survey.specs.Lowering.{Lowered, Above, Tight, Passed, Swept}
+use Rattle.survey.proofs.Rows.{lowered_above}
 use Rattle.survey.proofs.Forms.{formed_count, formed_few, formed_first, formed_second, formed_linked}
 
--- SWEEPS
-module _ (Kept : List ℕ → Type 0) where
-  pub swept_none : (h : List ℕ) → Kept h → Swept Kept h h
-  swept_none h k = record { kept = k; less = omega arith }
+linked_step : (w : Wiring) (p q c : ℕ) → q < w.cards → linked w p q ≡ true → hops w p c ≤ hops w q c + 1
+linked_step w p q c h e = omega (arith, hops_triangle w p q c, hops_linked w p q h e)
 
-  pub swept_more : (old mid new : List ℕ) {F : Type 0} → Swept Kept old mid → LinkLowered Kept F mid new → Swept Kept old new
-  swept_more old mid new s l = record { kept = l.kept; less = omega (arith, s.less, l.less) }
-
--- THE LOWEST LOOSE LINK, and lowering by it
-module _ (IsTight IsLoose : ℕ → Type 0) (m i : ℕ) where
-  pub loose_here : i < m → ((j : ℕ) → j < i → IsTight j) → IsLoose i → FirstLoose IsTight IsLoose m i
-  loose_here h before l = record { few = omega arith; tight = before; loose = λ k. l }
-
-  pub loose_none : m ≡ i → ((j : ℕ) → j < i → IsTight j) → FirstLoose IsTight IsLoose m m
-  loose_none e before = record { few = omega arith; tight = λ j l. before j (omega arith); loose = λ k. absurd (omega arith) }
-
-module _ (Kept : List ℕ → Type 0) (IsTight IsLoose : List ℕ → ℕ → Type 0) (old : List ℕ) (m i : ℕ) (f : FirstLoose (IsTight old) (IsLoose old) m i) where
-  pub tightened_none : Kept old → i ≡ m → Tightened Kept IsTight old old m m
-  tightened_none k e =
-      record { kept = k; less = omega arith; fall = λ h. absurd (omega arith); tight = λ h j l. f.tight j (omega arith) }
-
-  pub tightened_link : (new : List ℕ) → i ≢ m → LinkLowered Kept ((i < m) × IsLoose old i) old new → Tightened Kept IsTight old new m i
-  tightened_link new ne l =
-      let h : i < m = omega (arith, f.few) in
-      record { kept = l.kept; less = l.less; fall = λ k. l.fall (h, f.loose h); tight = λ k. absurd (omega arith) }
-
--- THE ROWS of a link's two ends
-module _ (bs : List ℕ) (n m : ℕ) (f : Formed bs n m) (i p q : ℕ) (h : i < m)
-    (ep : p ≡ (link_at (file_wiring bs) i).first) (eq : q ≡ (link_at (file_wiring bs) i).second) where
-  pub link_lowered : (old new : List ℕ) → Above (file_wiring bs) old → RowsLowered old new p q 256
-      → LinkLowered (Above (file_wiring bs)) ((i < m) × Loose (file_wiring bs) old i) old new
-  link_lowered old new a r =
+-- ONE LINK: the rows of both its ends
+module _ (bs : List ℕ) (n m : ℕ) (f : Formed bs n m) (old mid new : List ℕ) (i p q x y off : ℕ) (h : i < m) (a : Above (file_wiring bs) old)
+    (ep : p ≡ (link_at (file_wiring bs) i).first) (eq : q ≡ (link_at (file_wiring bs) i).second)
+    (l : Lowered old mid p q 256 x) (r : Lowered mid new q p 256 y) (eo : off ≡ max x y) where
+  link_tight : off ≡ 0 → Tight (file_wiring bs) new i
+  link_tight z =
+      let e : mid ≡ old = l.still (omega arith) in
+      let g : new ≡ mid = r.still (omega arith) in
       record {
-        kept = record { long = r.long ∙ a.long; bounds = bounds; rows = rows; places = places };
-        less = r.less;
-        fall = λ z. r.fall z.1.0 z.1.1 (rw (ep, eq) z.1.2);
+        first = λ c hc. rw (← ep, ← eq, g, e) (omega (arith, l.lower c hc, ap (λ (t : List ℕ). cell t p c) e));
+        second = λ c hc. rw (← ep, ← eq, g) (omega (arith, r.lower c hc, ap (λ (t : List ℕ). cell t q c) g));
+      }
+
+  pub link_passed : Passed (file_wiring bs) old new i (i + 1) off
+  link_passed =
+      let hp : p < (file_wiring bs).cards = rw ep (formed_first bs n m f i h) in
+      let hq : q < (file_wiring bs).cards = rw eq (formed_second bs n m f i h) in
+      let few = formed_few bs n m f in
+      let e : linked (file_wiring bs) p q ≡ true = rw (ep, eq) (formed_linked bs n m f i h) in
+      let first_above = lowered_above (file_wiring bs) old mid p q x few a l hp hq (λ c. linked_step (file_wiring bs) p q c hq e) in
+      record {
+        above = lowered_above (file_wiring bs) mid new q p y few first_above r hq hp (λ c. linked_step (file_wiring bs) q p c hp (linked_sym (file_wiring bs) p q e));
+        taken = omega (arith, l.taken, r.taken);
+        still = λ z. r.still (omega arith) ∙ l.still (omega arith);
+        tight = λ z j s t. let e : j ≡ i = omega arith in rw e (link_tight z);
+      }
+
+-- PASSES
+pub passed_none : (w : Wiring) (h : List ℕ) (i : ℕ) → Above w h → Passed w h h i i 0
+passed_none w h i a = record { above = a; taken = omega arith; still = λ z. refl; tight = λ z j s t. absurd (omega arith) }
+
+pub passed_more : (w : Wiring) (old mid new : List ℕ) (i j k x y off : ℕ) → off ≡ max x y → Passed w old mid i j x → Passed w mid new j k y → Passed w old new i k off
+passed_more w old mid new i j k x y off e p q =
+    record {
+      above = q.above;
+      taken = omega (arith, p.taken, q.taken);
+      still = λ z. q.still (omega arith) ∙ p.still (omega arith);
+      tight = λ z c s t. by_lt c j (λ l. let g : new ≡ mid = q.still (omega arith) in rw g (p.tight (omega arith) c s l)) (λ l. q.tight (omega arith) c l t);
+    }
+
+pub swept_none : (w : Wiring) (h : List ℕ) → Above w h → Swept w h h
+swept_none w h a = record { above = a; less = omega arith }
+
+pub swept_more : (w : Wiring) (old mid new : List ℕ) → Swept w old mid → Swept w mid new → Swept w old new
+swept_more w old mid new p q = record { above = q.above; less = omega (arith, p.less, q.less) }
+
+-- BOUNDS WITH EVERY LINK TIGHT are hops
+module _ (w : Wiring) (h : List ℕ) (few : w.cards ≤ 256) (a : Above w h) (tight : (i : ℕ) → i < link_count w → Tight w h i) where
+  -- the bounds of the link's ends to card b are within one
+  abbrev Within : (b : ℕ) → Link → Type 0
+  Within b l = (cell h l.first b ≤ cell h l.second b + 1) × (cell h l.second b ≤ cell h l.first b + 1)
+
+  linked_within : (p q b : ℕ) → b < 256 → linked w p q ≡ true → cell h p b ≤ cell h q b + 1
+  linked_within p q b hb e = go (linked_link w p q e)
+    where
+      link_within : (l : Link) → In l w.links → Within b l
+      link_within l m =
+          let r = getD_in w.links (link 0 0) l m in
+          let t = tight r.0 r.1 in
+          subst (Within b) r.2 (t.first b hb, t.second b hb)
+
+      go : (l : Link) × In l w.links × Ends p q l → cell h p b ≤ cell h q b + 1
+      go (l, m, inl g) = omega (arith, (link_within l m).0, ap (λ (x : ℕ). cell h x b) g.0, ap (λ (x : ℕ). cell h x b) g.1)
+      go (l, m, inr g) = omega (arith, (link_within l m).1, ap (λ (x : ℕ). cell h x b) g.0, ap (λ (x : ℕ). cell h x b) g.1)
+
+  path_bound : (k c b : ℕ) → b < w.cards → has_path w k c b ≡ true → cell h c b ≤ k
+  path_bound zero c b hb p = rw (path_zero w c b p) (omega (arith, a.self b hb))
+  path_bound (suc k) c b hb p =
+      let r = path_next w k c b p in
+      omega (arith, linked_within c r.0 b (omega arith) r.2, path_bound k r.0 b hb r.3)
+
+  pub tight_hops : HopsIn w h
+  tight_hops =
+      record {
+        long = a.long;
+        is = λ c b hc hb. omega (arith, a.over c b hc hb, below c b hc hb);
+        rows = a.rows;
+        places = a.places;
       }
     where
-      hp : p < (file_wiring bs).cards
-      hp = rw ep (formed_first bs n m f i h)
+      below : (c b : ℕ) → c < w.cards → b < w.cards → cell h c b ≤ hops w c b
+      below c b hc hb = by_lt (hops w c b) w.cards (λ l. path_bound (hops w c b) c b hb (hops_path w c b l)) (λ l. omega (arith, a.most c b hc hb))
 
-      hq : q < (file_wiring bs).cards
-      hq = rw eq (formed_second bs n m f i h)
-
-      bounds : (b : ℕ) → b < (file_wiring bs).cards → Bounds (file_wiring bs) b (λ c. cell new c b)
-      bounds b hb =
-          lowered_bounds (file_wiring bs) b p q (λ c. cell old c b) (λ c. cell new c b) hp hq (rw (ep, eq) (formed_linked bs n m f i h)) (a.bounds b hb)
-          (r.lower b (omega (arith, formed_few bs n m f)))
-
-      rows : (c b : ℕ) → b < 256 → (file_wiring bs).cards ≤ c → cell new c b ≡ 0
-      rows c b hb l = (r.lower b hb).other c (λ e. omega (arith, e, hp)) (λ e. omega (arith, e, hq)) ∙ a.rows c b hb l
-
-      places : (c b : ℕ) → b < 256 → (file_wiring bs).cards ≤ b → cell new c b ≡ 0
-      places c b hb l =
-          by_eq c p
-          (λ (e : c ≡ p). rw e (omega (arith, (r.lower b hb).first, a.places p b hb l)))
-          (λ np. by_eq c q
-          (λ (e : c ≡ q). rw e (omega (arith, (r.lower b hb).second, a.places q b hb l)))
-          (λ nq. (r.lower b hb).other c np nq ∙ a.places c b hb l))
-
-  pub near_tight : (s : List ℕ) (far : ℕ) → RowsApart s p q 256 far → far ≤ 1 → Tight (file_wiring bs) s i
-  near_tight s far r l b hb = rw (← ep, ← eq) (omega (arith, r.most b hb))
-
-  pub far_loose : (s : List ℕ) (far : ℕ) → RowsApart s p q 256 far → 1 < far → Loose (file_wiring bs) s i
-  far_loose s far r l = let z = r.some l in (z.0, z.1, rw (← ep, ← eq) z.2)
-
--- HOPS where every link is tight
-pub table_hops : (bs h : List ℕ) (n m : ℕ) → Formed bs n m → Above (file_wiring bs) h
-    → ((j : ℕ) → j < m → Tight (file_wiring bs) h j) → HopsIn (file_wiring bs) h
-table_hops bs h n m f a tight =
-    record {
-      long = a.long;
-      is = λ c b hc hb. tight_hops (file_wiring bs) b (λ x. cell h x b) (a.bounds b hb)
-          (λ j l. tight j (omega (arith, formed_count bs n m f)) b (omega (arith, formed_few bs n m f))) c hc;
-      rows = a.rows;
-      places = a.places;
-    }
+-- a pass over every link that lowers nothing
+pub passed_hops : (bs old new : List ℕ) (n m off : ℕ) → Formed bs n m → Passed (file_wiring bs) old new 0 m off → off ≡ 0 → HopsIn (file_wiring bs) new
+passed_hops bs old new n m off f p z =
+    tight_hops (file_wiring bs) new (formed_few bs n m f) p.above (λ i l. p.tight z i (omega arith) (omega (arith, formed_count bs n m f)))

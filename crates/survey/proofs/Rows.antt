@@ -1,16 +1,18 @@
--- Two rows of bounds, lowered by each other place by place, and the most by which they differ. Assumes nothing.
-use mathlib.Core.Path.{◌≡◌, refl, sym, ◌∙◌}
+-- Lowering a row of bounds by another, place by place; a lowered row still bounds hops. Assumes nothing.
+use mathlib.Core.Path.{◌≡◌, refl, ap, sym, subst, ◌∙◌}
 use mathlib.Core.Logic.{◌≢◌}
 use mathlib.Core.List.{List, [], ◌∷◌}
-use Prim.Native.Nat.{ℕ, zero, suc, ◌+◌, ◌*◌, ◌<◌, min, max}
+use Prim.Native.Nat.{ℕ, zero, suc, ◌+◌, ◌*◌, ◌-◌, ◌≤◌, ◌<◌, min, max}
 use native.Mathlib.Omega.{arith}
 use lib.ListN.{length, get_or, set, length-set}
-use lib.Seq.{get_or-set_same, get_or-set_other}
+use lib.Seq.{get_or-set_same, get_or-set_other, set-get_or}
 use Rattle.rack.specs.Lists.{sum}
 use Rattle.rack.specs.Limits.{lent_hops}
+use Rattle.rack.specs.Wiring.{Wiring}
+use Rattle.rack.specs.Hops.{hops}
 use Rattle.rack.proofs.Logic.{by_eq, by_lt}
 use Rattle.survey.specs.Tables.{cell}
-use Rattle.survey.specs.Lowering.{Lowered, RowsLowered, RowsApart, apart}
+use Rattle.survey.specs.Lowering.{Lowered, Above}
 
 sum_set : (l : List ℕ) (i v : ℕ) → i < length l → sum (set l i v) + get_or l i 0 ≡ sum l + v
 unfolding sum
@@ -18,105 +20,65 @@ sum_set [] i v h = omega arith
 sum_set (x ∷ l) zero v h = omega arith
 sum_set (x ∷ l) (suc i) v h = omega (arith, sum_set l i v (omega arith))
 
--- TWO PLACES of a buffer written one after the other
-module _ (s : List ℕ) (i j x y : ℕ) (hi : i < length s) (hj : j < length s) (ne : i ≢ j) where
-  abbrev both : List ℕ
-  both = set (set s i x) j y
-
-  pub both_first : get_or both i 0 ≡ x
-  both_first = get_or-set_other (set s i x) j i y 0 ne ∙ get_or-set_same s i x 0 hi
-
-  pub both_second : get_or both j 0 ≡ y
-  both_second = get_or-set_same (set s i x) j y 0 (omega (arith, length-set s i x))
-
-  pub both_other : (k : ℕ) → k ≢ i → k ≢ j → get_or both k 0 ≡ get_or s k 0
-  both_other k a b = get_or-set_other (set s i x) j k y 0 b ∙ get_or-set_other s i k x 0 a
-
-  pub both_long : length both ≡ length s
-  both_long = length-set (set s i x) j y ∙ length-set s i x
-
-  pub both_sum : sum both + (get_or s i 0 + get_or s j 0) ≡ sum s + (x + y)
-  both_sum =
-      omega (arith, sum_set (set s i x) j y (omega (arith, length-set s i x)), sum_set s i x hi, get_or-set_other s i j x 0 (λ e. ne (sym e)))
-
--- NO PLACE lowered yet
-pub rows_none : (h : List ℕ) (p q : ℕ) → RowsLowered h h p q 0
-rows_none h p q =
+-- no place lowered yet
+pub lowered_none : (h : List ℕ) (to by : ℕ) → Lowered h h to by 0 0
+lowered_none h to by =
     record {
       long = refl;
-      lower = λ b l. absurd (omega arith);
-      after = λ a b l k. refl;
-      less = omega arith;
-      fall = λ b l. absurd (omega arith);
+      lower = λ b l. omega arith;
+      before = λ i l. refl;
+      after = λ i l. refl;
+      taken = omega arith;
+      still = λ z. refl;
     }
 
--- ONE PLACE MORE, lowered to x and y
-module _ (old mid : List ℕ) (p q b x y : ℕ) (r : RowsLowered old mid p q b) (hb : b < 256) (long : length old ≡ lent_hops)
-    (hp : p < 256) (hq : q < 256) (ne : p ≢ q) (ex : x ≡ min (cell mid p b) (cell mid q b + 1)) (ey : y ≡ min (cell mid q b) (cell mid p b + 1)) where
-  abbrev new : List ℕ
-  new = set (set mid (256 * p + b) x) (256 * q + b) y
+-- one place more, lowered to z
+module _ (old new : List ℕ) (to by b off z off' : ℕ) (p : Lowered old new to by b off) (hb : b < 256) (long : length old ≡ lent_hops) (ht : to < 256)
+    (ez : z ≡ min (cell new to b) (cell new by b + 1)) (eo : off' ≡ max off (cell new to b - z)) where
+  by_unchanged : cell new by b ≡ cell old by b
+  by_unchanged = by_lt by to (λ l. p.before (256 * by + b) (omega arith)) (λ l. p.after (256 * by + b) (omega arith))
 
-  in_first : 256 * p + b < length mid
-  in_first = omega (arith, r.long)
+  lower_more : (c : ℕ) → c < b + 1 → cell (set new (256 * to + b) z) to c ≡ min (cell old to c) (cell old by c + 1)
+  lower_more c hc =
+      by_eq c b
+      (λ (e : c ≡ b). rw e (get_or-set_same new (256 * to + b) z 0 (omega (arith, p.long)) ∙ ez ∙ cc (by_unchanged, p.after (256 * to + b) (omega arith))))
+      (λ ne. get_or-set_other new (256 * to + b) (256 * to + c) z 0 (omega arith) ∙ p.lower c (omega arith))
 
-  in_second : 256 * q + b < length mid
-  in_second = omega (arith, r.long)
+  still_more : off' ≡ 0 → set new (256 * to + b) z ≡ old
+  still_more o = let e : z ≡ cell new to b = omega arith in rw (e, set-get_or) (p.still (omega arith))
 
-  places_differ : 256 * p + b ≢ 256 * q + b
-  places_differ e = ne (omega arith)
-
-  -- the two places are as they were
-  first_old : cell mid p b ≡ cell old p b
-  first_old = r.after p b (omega arith) hb
-
-  second_old : cell mid q b ≡ cell old q b
-  second_old = r.after q b (omega arith) hb
-
-  other_place : (c d : ℕ) → d < 256 → d ≢ b → cell new c d ≡ cell mid c d
-  other_place c d hd nd = both_other mid (256 * p + b) (256 * q + b) x y in_first in_second places_differ (256 * c + d) (λ e. nd (omega arith)) (λ e. nd (omega arith))
-
-  lowered_here : Lowered (λ c. cell old c b) (λ c. cell new c b) p q
-  lowered_here =
+  pub lowered_more : Lowered old (set new (256 * to + b) z) to by (b + 1) off'
+  lowered_more =
       record {
-        first = both_first mid (256 * p + b) (256 * q + b) x y in_first in_second places_differ ∙ omega (arith, ex, first_old, second_old);
-        second = both_second mid (256 * p + b) (256 * q + b) x y in_first in_second places_differ ∙ omega (arith, ey, first_old, second_old);
-        other = λ c np nq. both_other mid (256 * p + b) (256 * q + b) x y in_first in_second places_differ (256 * c + b)
-            (λ e. np (omega arith)) (λ e. nq (omega arith)) ∙ r.after c b (omega arith) hb;
+        long = length-set new (256 * to + b) z ∙ p.long;
+        lower = lower_more;
+        before = λ i l. get_or-set_other new (256 * to + b) i z 0 (omega arith) ∙ p.before i l;
+        after = λ i l. get_or-set_other new (256 * to + b) i z 0 (omega arith) ∙ p.after i (omega arith);
+        taken = omega (arith, p.taken, sum_set new (256 * to + b) z (omega (arith, p.long)));
+        still = still_more;
       }
 
-  lowered_earlier : (d : ℕ) → d < b → Lowered (λ c. cell old c d) (λ c. cell new c d) p q
-  lowered_earlier d l =
+-- a whole row, whose card has at most one hop more than the other's to any card
+module _ (w : Wiring) (old new : List ℕ) (to by off : ℕ) (few : w.cards ≤ 256) (a : Above w old) (p : Lowered old new to by 256 off)
+    (ht : to < w.cards) (hb : by < w.cards) (step : (c : ℕ) → hops w to c ≤ hops w by c + 1) where
+  other_row : (c d : ℕ) → d < 256 → c ≢ to → cell new c d ≡ cell old c d
+  other_row c d l ne = by_lt c to (λ k. p.before (256 * c + d) (omega arith)) (λ k. p.after (256 * c + d) (omega arith))
+
+  -- what holds of the old bound, and of the lowered one in row `to`, holds of the new bound
+  by_row : (P : ℕ → Type 0) (c d : ℕ) → d < 256 → P (cell old c d) → (c ≡ to → P (min (cell old to d) (cell old by d + 1))) → P (cell new c d)
+  by_row P c d l other low =
+      by_eq c to
+      (λ e. subst P (sym (p.lower d l) ∙ ap (λ (x : ℕ). cell new x d) (sym e)) (low e))
+      (λ ne. subst P (sym (other_row c d l ne)) other)
+
+  pub lowered_above : Above w new
+  lowered_above =
       record {
-        first = other_place p d (omega arith) (omega arith) ∙ (r.lower d l).first;
-        second = other_place q d (omega arith) (omega arith) ∙ (r.lower d l).second;
-        other = λ c np nq. other_place c d (omega arith) (omega arith) ∙ (r.lower d l).other c np nq;
+        long = p.long ∙ a.long;
+        over = λ c d hc hd. by_row (λ x. hops w c d ≤ x) c d (omega arith) (a.over c d hc hd)
+            (λ (e : c ≡ to). rw e (omega (arith, step d, a.over to d ht hd, a.over by d hb hd)));
+        most = λ c d hc hd. by_row (λ x. x ≤ w.cards) c d (omega arith) (a.most c d hc hd) (λ e. omega (arith, a.most to d ht hd));
+        self = λ c hc. by_row (λ x. x ≡ 0) c c (omega arith) (a.self c hc) (λ e. omega (arith, a.self to ht, ap (λ (x : ℕ). cell old to x) e));
+        rows = λ c d hd hc. by_row (λ x. x ≡ 0) c d hd (a.rows c d hd hc) (λ e. absurd (omega arith));
+        places = λ c d hd hc. by_row (λ x. x ≡ 0) c d hd (a.places c d hd hc) (λ e. omega (arith, a.places to d hd hc));
       }
-
-  taken : sum new + (cell old p b + cell old q b) ≡ sum mid + (x + y)
-  taken = omega (arith, first_old, second_old, both_sum mid (256 * p + b) (256 * q + b) x y in_first in_second places_differ)
-
-  pub rows_more : RowsLowered old new p q (b + 1)
-  rows_more =
-      record {
-        long = both_long mid (256 * p + b) (256 * q + b) x y in_first in_second places_differ ∙ r.long;
-        lower = λ d l. by_eq d b
-            (λ (e : d ≡ b). rw e lowered_here)
-            (λ nd. lowered_earlier d (omega arith));
-        after = λ c d l hd. other_place c d hd (omega arith) ∙ r.after c d (omega arith) hd;
-        less = omega (arith, taken, first_old, second_old, ex, ey, r.less);
-        fall = λ d l far. by_eq d b
-            (λ (e : d ≡ b). let k : 1 < apart (cell old p b) (cell old q b) = rw e at far in omega (arith, k, taken, first_old, second_old, ex, ey, r.less))
-            (λ nd. omega (arith, taken, first_old, second_old, ex, ey, r.fall d (omega arith) far));
-      }
-
--- THE MOST by which two rows differ
-pub apart_none : (h : List ℕ) (p q : ℕ) → RowsApart h p q 0 0
-apart_none h p q = record { most = λ b l. absurd (omega arith); some = λ l. absurd (omega arith) }
-
-pub apart_more : (h : List ℕ) (p q b far g far' : ℕ) → RowsApart h p q b far → g ≡ apart (cell h p b) (cell h q b)
-    → far' ≡ max far g → RowsApart h p q (b + 1) far'
-apart_more h p q b far g far' r eg ef =
-    record {
-      most = λ d l. by_eq d b (λ (e : d ≡ b). rw e (omega arith)) (λ nd. omega (arith, r.most d (omega arith)));
-      some = λ l. by_lt 1 far (λ k. let s = r.some k in (s.0, omega (arith, s.1), s.2)) (λ k. (b, omega arith, omega arith));
-    }

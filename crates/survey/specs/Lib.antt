@@ -1,5 +1,5 @@
 pub mod Refusing
 pub mod Tables
 pub mod Marks
+pub mod Flags
 pub mod Lowering
-pub mod CardLevels

@@ -11,7 +11,7 @@ ghost use Rattle.writing.specs.Guessing.{GuessSays};
 
 use column_guess::guess_columns;
 use plan_writer::put_plan;
-use planner::{Answer, refused, write_by_hops};
+use planner::{Answer, refused};
 use rack::bytes::number_at;
 use rack::fill::clear_bytes;
 use rack::limits::{LENT_PLAN, LENT_WORDS};
@@ -62,7 +62,7 @@ pub fn write_plan(file: &[u8], output: &mut [u8]) -> Answer
         return refused(1, 0);
     }
     if sizes_fault(file) != 0 {
-        return write_by_hops(file, output);
+        return planner::write_plan(file, output);
     }
     clear_bytes(output);
     let length = guess_plan(file, output);
@@ -73,5 +73,5 @@ pub fn write_plan(file: &[u8], output: &mut [u8]) -> Answer
             value: length as u32,
         };
     }
-    write_by_hops(file, output)
+    planner::write_plan(file, output)
 }

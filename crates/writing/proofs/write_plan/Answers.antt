@@ -31,7 +31,7 @@ returns-then-length-ne0 c =
 pub returns : goal.returns
 returns c =
     let says = write_says_over c.args.file.now _ _ c.args.output.now _
-    (c.guess_plan-length.auto.output ∙ c.clear_bytes.auto.bytes) c.if-output-ne-LENT_PLAN.false c.write_by_hops-2.ensures.says in
+    (c.guess_plan-length.auto.output ∙ c.clear_bytes.auto.bytes) c.if-output-ne-LENT_PLAN.false c.write_plan-2.ensures.says in
     record {
       says = says;
       found = λ a. plan_found _ _ _ _ a says;

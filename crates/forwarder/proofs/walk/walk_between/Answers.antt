@@ -18,11 +18,8 @@ known c =
 pub overflow_cast-met : goal.overflow_cast-met
 overflow_cast-met c = omega (arith, c.requires.1.few)
 
-pub plan_hamming-left-requires : goal.plan_hamming-left-requires
-plan_hamming-left-requires c = c.requires
-
 pub step_between-s-requires : goal.step_between-s-requires
-step_between-s-requires c = let p = c.requires in (p.0, p.1, p.2, p.3, c.plan_hamming-left.ensures)
+step_between-s-requires c = c.requires
 
 pub loop-s-init : goal.loop-s-init
 loop-s-init c = walk_begins _ _ _ _ c.step_between-s.ensures
@@ -44,8 +41,7 @@ overflow_cast-at c = omega (arith, known c)
 
 pub step_between-s-requires-in-loop-s : goal.step_between-s-requires-in-loop-s
 step_between-s-requires-in-loop-s c =
-    let p = c.requires in
-    (p.0, p.1, (known c).1, p.3, c.loop-s.invariant.next.left c.loop-s-test.true)
+    (c.requires.0, c.requires.1, (known c).1, c.requires.3)
 
 pub loop-s-smaller : goal.loop-s-smaller
 loop-s-smaller c = omega (arith, known (goal.at.loop-s-smaller c).In-loop-s)

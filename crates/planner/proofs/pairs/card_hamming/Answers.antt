@@ -1,7 +1,19 @@
--- The differing places of two cards are those of their four words, added. Assumes nothing.
+-- The differing places of two cards are those of their four words, added; words that are not used have none. Assumes nothing.
 use native.Mathlib.Omega.{arith}
-use Rattle.planner.proofs.AddressWords.{words_hamming_parts}
+use Rattle.planner.proofs.AddressWords.{words_hamming_parts, unused_part}
+use borrow.Author.Rules.{rules}
 use Rattle.planner.proofs.pairs.card_hamming.Goals as goal
+
+pub returns-then-used-le1 : goal.returns-then-used-le1
+returns-then-used-le1 c =
+    let unused = unused_part c.args.words.now c.args.used c.requires.2 c.args.a c.args.b in
+    omega (
+      arith,
+      words_hamming_parts c.args.words.now c.args.a c.args.b,
+      unused 1 (omega arith) (omega arith),
+      unused 2 (omega arith) (omega arith),
+      unused 3 (omega arith) (omega arith),
+    )
 
 pub returns : goal.returns
 returns c =

@@ -2,6 +2,7 @@
 use mathlib.Core.Path.{sym, ◌∙◌}
 use Rattle.reader.proofs.Reading.{says_layout, says_laid_out}
 use Rattle.reader.proofs.ReadAnswer.{read_says_layout, read_says_sizes, read_says_content, read_promise}
+use borrow.Author.Rules.{rules}
 use Rattle.reader.proofs.read.read_plan.Goals as goal
 
 pub returns-then-sizes-ne0 : goal.returns-then-sizes-ne0
@@ -14,7 +15,10 @@ returns-then-sizes-ne0 c =
 
 pub content_holds-requires : goal.content_holds-requires
 content_holds-requires c =
-    says_laid_out _ c.plan_layout-sizes.result c.plan_layout-sizes.ensures c.if-sizes-ne0.false
+    let passed = c.if-sizes-ne0.false in (
+      says_layout _ c.plan_layout-sizes.result c.plan_layout-sizes.ensures passed,
+      (says_laid_out _ c.plan_layout-sizes.result c.plan_layout-sizes.ensures passed).links,
+    )
 
 pub returns-then-content_holds : goal.returns-then-content_holds
 returns-then-content_holds c =

@@ -1,10 +1,14 @@
 -- The first b places of the row are filled. Assumes nothing.
+use mathlib.Core.Path.{◌≡◌}
 use Prim.Native.Nat.{◌-◌, ◌≤◌}
+use native.Mathlib.Omega.{arith}
+use borrow.Author.Rules.{rules}
 use Rattle.survey.specs.Lowering.{RowFilled}
+use Rattle.survey.proofs.FirstBounds.{filled_none, filled_more}
 use Rattle.survey.proofs.hops.fill_row.Given as goal
 
 abbrev pub invariant-loop-b : goal.invariant-loop-b
-invariant-loop-b l = (l.b ≤ l.n) × RowFilled l.bound l.initial.bounds l.bounds l.a l.b
+invariant-loop-b l = (l.b ≤ 256) × RowFilled l.n l.bound l.initial.bounds l.bounds l.a l.b
 
 abbrev pub decreases-loop-b : goal.decreases-loop-b
-decreases-loop-b l = l.n - l.b
+decreases-loop-b l = 256 - l.b

@@ -1,20 +1,26 @@
--- The rows of the two ends are lowered by each other. Assumes nothing.
-use mathlib.Core.Path.{sym, ◌∙◌}
+-- The row of the first end is lowered by that of the second, and then the other way; the larger of what the two took off is the link's. Assumes nothing.
+use mathlib.Core.Path.{◌∙◌}
 use native.Mathlib.Omega.{arith}
-use Rattle.survey.proofs.Passes.{link_lowered}
+use borrow.Author.Rules.{rules}
+use Rattle.survey.proofs.Passes.{link_passed}
 use Rattle.survey.proofs.hops.lower_link.Goals as goal
 
-pub lower_rows-requires : goal.lower_rows-requires
-lower_rows-requires c =
-    let p = c.first_end-p.ensures.is in
-    let q = c.second_end-q.ensures.is in (
-      c.requires.1.long,
-      omega (arith, p, c.requires.0.first c.args.i (omega arith), c.requires.0.sizes.few),
-      omega (arith, q, c.requires.0.second c.args.i (omega arith), c.requires.0.sizes.few),
-      (λ e. c.requires.0.apart c.args.i (omega arith) (sym p ∙ e ∙ q)),
-    )
+pub lower_row-a-requires : goal.lower_row-a-requires
+lower_row-a-requires c = (
+  c.requires.2.long,
+  omega (arith, c.first_end-p.ensures.is, c.requires.0.first c.args.i (omega arith), c.requires.0.sizes.few),
+  omega (arith, c.second_end-q.ensures.is, c.requires.0.second c.args.i (omega arith), c.requires.0.sizes.few),
+)
+
+pub lower_row-b-requires : goal.lower_row-b-requires
+lower_row-b-requires c = (
+  c.lower_row-a.ensures.long ∙ c.requires.2.long,
+  omega (arith, c.second_end-q.ensures.is, c.requires.0.second c.args.i (omega arith), c.requires.0.sizes.few),
+  omega (arith, c.first_end-p.ensures.is, c.requires.0.first c.args.i (omega arith), c.requires.0.sizes.few),
+)
 
 pub returns : goal.returns
 returns c =
-    link_lowered _ _ _ c.requires.0 _ _ _ (omega arith) c.first_end-p.ensures.is c.second_end-q.ensures.is _ _ c.requires.1
-    c.lower_rows.ensures
+    link_passed _ _ _ c.requires.0 _ _ _ _ _ _ _ _ _ (omega arith) c.requires.2 c.first_end-p.ensures.is
+    c.second_end-q.ensures.is
+    c.lower_row-a.ensures c.lower_row-b.ensures c.larger.ensures

@@ -1,20 +1,21 @@
--- The bounds stay above hops, and once no link is loose they are hops; each turn that goes on lowers their sum. Assumes nothing.
+-- The bounds stay above hops, and once a pass over every link takes nothing off they are hops; each turn that goes on lowers their sum. Assumes nothing.
+use mathlib.Core.Path.{◌≡◌}
+use Prim.Native.Nat.{◌+◌}
 use native.Mathlib.Omega.{arith}
-use Rattle.rack.proofs.Logic.{by_lt}
-use Rattle.survey.proofs.Passes.{table_hops}
+use borrow.Author.Rules.{rules}
+use Rattle.rack.specs.Lists.{sum}
+use Rattle.rack.specs.WiringFile.{file_wiring}
+use Rattle.survey.specs.Lowering.{Above}
+use Rattle.survey.specs.Tables.{HopsIn}
+use Rattle.survey.proofs.Passes.{passed_hops}
 use Rattle.survey.proofs.hops.settle.Goals as goal
 
-pub loop-loose-init : goal.loop-loose-init
-loop-loose-init c = (c.requires.1, λ h j l. absurd (omega arith))
+pub loop-off-init : goal.loop-off-init
+loop-off-init c = (c.requires.1, λ e. absurd (omega arith))
 
-pub loop-loose-smaller : goal.loop-loose-smaller
-loop-loose-smaller c =
-    let t = c.tighten-loose in
-    by_lt t.result _ (λ l. omega (arith, t.ensures.fall l)) (λ l. omega arith)
-
-pub loop-loose-preserved : goal.loop-loose-preserved
-loop-loose-preserved c = let t = c.tighten-loose.ensures in (t.kept, t.tight)
+pub loop-off-preserved : goal.loop-off-preserved
+loop-off-preserved c =
+    (c.lower_pass-off.ensures.above, passed_hops _ _ _ _ _ _ c.requires.0 c.lower_pass-off.ensures)
 
 pub returns : goal.returns
-returns c =
-    table_hops _ _ _ _ c.requires.0 c.loop-loose.invariant.0 (c.loop-loose.invariant.1 (omega arith))
+returns c = c.loop-off.invariant.1 (omega arith)

@@ -1,7 +1,8 @@
--- The rows below a hold the first bounds: one row more each turn, and those of all cards at the end. Assumes nothing.
-use mathlib.Core.Path.{◌≡◌, sym, ◌∙◌}
+-- The rows below a hold the first bounds: one row more each turn, and 256 at the end. Assumes nothing.
+use mathlib.Core.Path.{◌≡◌}
+use Prim.Native.Nat.{◌-◌, ◌≤◌}
 use native.Mathlib.Omega.{arith}
-use Rattle.rack.proofs.Zeros.{zeros_long}
+use Rattle.survey.specs.Lowering.{Started}
 use Rattle.survey.proofs.FirstBounds.{started_none}
 use Rattle.survey.proofs.hops.start_bounds.Goals as goal
 
@@ -14,8 +15,5 @@ start_row-requires c = (omega arith, omega arith, c.loop-a.invariant.1)
 pub loop-a-preserved : goal.loop-a-preserved
 loop-a-preserved c = (omega arith, c.start_row.ensures)
 
-pub shape_of-bounds : goal.shape_of-bounds
-shape_of-bounds c = c.loop-a.invariant.1.long ∙ sym (zeros_long _ _ c.requires.1)
-
 pub returns : goal.returns
-returns c = let e : c.loop-a.a ≡ c.args.n = omega arith in rw e at c.loop-a.invariant.1
+returns c = let e : c.loop-a.a ≡ 256 = omega arith in rw e at c.loop-a.invariant.1

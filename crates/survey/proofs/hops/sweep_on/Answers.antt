@@ -1,5 +1,9 @@
 -- The bounds are swept by the links of the order before j, and j rises to m. Assumes nothing.
+use Prim.Native.Nat.{◌-◌, ◌≤◌}
 use native.Mathlib.Omega.{arith}
+use borrow.Author.Rules.{rules}
+use Rattle.rack.specs.WiringFile.{file_wiring}
+use Rattle.survey.specs.Lowering.{Swept}
 use Rattle.survey.proofs.Passes.{swept_none, swept_more}
 use Rattle.survey.proofs.hops.sweep_on.Goals as goal
 
@@ -8,7 +12,7 @@ loop-j-init c = (omega arith, swept_none _ _ c.requires.1)
 
 pub loop-j-preserved : goal.loop-j-preserved
 loop-j-preserved c =
-    (omega arith, swept_more _ _ _ _ c.loop-j.invariant.1 c.lower_link.ensures)
+    (omega arith, swept_more _ _ _ _ c.loop-j.invariant.1 c.lower_one.ensures)
 
 pub returns : goal.returns
 returns c = c.loop-j.invariant.1

@@ -1,11 +1,14 @@
 -- The bounds are swept by the links of the order before j, and j rises to m. Assumes nothing.
 use Prim.Native.Nat.{◌-◌, ◌≤◌}
+use native.Mathlib.Omega.{arith}
+use borrow.Author.Rules.{rules}
 use Rattle.rack.specs.WiringFile.{file_wiring}
-use Rattle.survey.specs.Lowering.{Above, Swept}
+use Rattle.survey.specs.Lowering.{Swept}
+use Rattle.survey.proofs.Passes.{swept_none, swept_more}
 use Rattle.survey.proofs.hops.sweep_on.Given as goal
 
 abbrev pub invariant-loop-j : goal.invariant-loop-j
-invariant-loop-j l = (l.j ≤ l.m) × Swept (Above (file_wiring l.file)) l.initial.bounds l.bounds
+invariant-loop-j l = (l.j ≤ l.m) × Swept (file_wiring l.file) l.initial.bounds l.bounds
 
 abbrev pub decreases-loop-j : goal.decreases-loop-j
 decreases-loop-j l = l.m - l.j

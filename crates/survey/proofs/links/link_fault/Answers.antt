@@ -1,10 +1,10 @@
 -- `links::link_fault` meets its contract: the mark of the link's two cards counts the earlier links that join them, and a link that passes raises it both ways. Assumes nothing.
 use Rattle.survey.proofs.Forms.{cards_are, links_are}
-use Rattle.rack.proofs.LinkFaults.{fault_first, fault_second, fault_same_card, fault_parallel, fault_none}
-use Rattle.survey.proofs.Marks.{more_marked}
+use Rattle.survey.proofs.Marks.{fault_first, fault_second, fault_same_card, fault_parallel, fault_none, more_marked}
 use mathlib.Core.Path.{sym}
 use native.Mathlib.Omega.{arith}
 use lib.ListN.{length-set}
+use borrow.Author.Rules.{rules}
 use Rattle.survey.proofs.links.link_fault.Goals as goal
 
 pub returns-then-n-p : goal.returns-then-n-p

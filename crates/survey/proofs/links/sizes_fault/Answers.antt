@@ -3,6 +3,7 @@ use Rattle.survey.proofs.Forms.{sizes_short, sizes_zero_cards, sizes_many_cards,
 use Rattle.rack.proofs.WiringFile.{sized_clear}
 use mathlib.Core.Path.{sym}
 use native.Mathlib.Omega.{arith}
+use borrow.Author.Rules.{rules}
 use Rattle.survey.proofs.links.sizes_fault.Goals as goal
 
 pub returns-then-file-lt4 : goal.returns-then-file-lt4
