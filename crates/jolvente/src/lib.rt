@@ -1,4 +1,4 @@
-// The calls for C, by numbers and byte slices: write a plan, read a plan, walk a frame.
+// The calls for C, by numbers and byte slices: write a plan, read a plan, walk a frame. `jolvente_c` exports them.
 #![tactic(auto)]
 
 ghost use Rattle.std.specs.Prelude.{◌≡◌};
@@ -20,8 +20,7 @@ use planner::write_plan;
 mod records;
 
 // Writes the plan of a wiring file: 1 to 11. The record has the plan's length.
-#[unsafe(no_mangle)]
-pub extern "C" fn jolvente_write_plan(wiring: &[u8], plan: &mut [u8], record: &mut [u8]) -> u32
+pub fn jolvente_write_plan(wiring: &[u8], plan: &mut [u8], record: &mut [u8]) -> u32
     ensures says { CWriteSays wiring.now result plan.old plan.new «record».old «record».new }
     ensures found { CAsked wiring.now plan.old «record».old → CFound wiring.now result plan.new }
 {
@@ -37,8 +36,7 @@ pub extern "C" fn jolvente_write_plan(wiring: &[u8], plan: &mut [u8], record: &m
 }
 
 // Reads a plan: 1, 12, 13. The record has the plan's sizes.
-#[unsafe(no_mangle)]
-pub extern "C" fn jolvente_read_plan(plan: &[u8], record: &mut [u8]) -> u32
+pub fn jolvente_read_plan(plan: &[u8], record: &mut [u8]) -> u32
     ensures says { CReadSays plan.now result «record».old «record».new }
     ensures promise { result ≡ 0 → Measured plan.now }
 {
@@ -54,8 +52,7 @@ pub extern "C" fn jolvente_read_plan(plan: &[u8], record: &mut [u8]) -> u32
 }
 
 // Walks a frame of a caller: 1, 12, 18, 14, 15. The record has how it ended, its hops, and the caller's counts, which it had at entry.
-#[unsafe(no_mangle)]
-pub extern "C" fn jolvente_walk(
+pub fn jolvente_walk(
     plan: &[u8],
     from: u32,
     goal: u32,

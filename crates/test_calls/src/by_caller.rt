@@ -10,8 +10,7 @@ use rack::limits::MOST_CALLERS;
 use turns::next_frame;
 
 // A walk by caller: 1, 12, 18, 14, 15. The fields are 1 for arrived or 0 for stuck, the hops, 1 for a column or 0 for none, and the column.
-#[unsafe(no_mangle)]
-pub extern "C" fn test_walk_by_caller(
+pub fn test_walk_by_caller(
     plan: &[u8],
     from: u32,
     goal: u32,
@@ -38,8 +37,7 @@ pub extern "C" fn test_walk_by_caller(
 }
 
 // The walk of a lent frame: 1, 12, 19, 18, 14, 15. The fields are those of a walk by caller.
-#[unsafe(no_mangle)]
-pub extern "C" fn test_walk_lent(
+pub fn test_walk_lent(
     plan: &[u8],
     from: u32,
     frame: &[u8],
@@ -65,8 +63,7 @@ pub extern "C" fn test_walk_lent(
 }
 
 // The frame that goes of two that wait: 19, 18, 15.
-#[unsafe(no_mangle)]
-pub extern "C" fn test_next_frame<'a>(
+pub fn test_next_frame<'a>(
     first: &'a [u8],
     second: &'a [u8],
     turns: &mut [u32; MOST_CALLERS],

@@ -17,8 +17,7 @@ use carried::{
 use rack::limits::MOST_CALLERS;
 
 // Reading: 1, 12, 13. The fields are the three sizes.
-#[unsafe(no_mangle)]
-pub extern "C" fn test_read_carried(
+pub fn test_read_carried(
     bytes: &[u8],
     cards: u32,
     links: u32,
@@ -35,8 +34,7 @@ pub extern "C" fn test_read_carried(
 }
 
 // A card's address.
-#[unsafe(no_mangle)]
-pub extern "C" fn test_address_carried<'a>(
+pub fn test_address_carried<'a>(
     bytes: &'a [u8],
     cards: u32,
     links: u32,
@@ -51,8 +49,7 @@ pub extern "C" fn test_address_carried<'a>(
 }
 
 // The number beside it: 12, 13, 14.
-#[unsafe(no_mangle)]
-pub extern "C" fn test_address_refusal_carried(
+pub fn test_address_refusal_carried(
     bytes: &[u8],
     cards: u32,
     links: u32,
@@ -66,8 +63,7 @@ pub extern "C" fn test_address_refusal_carried(
 }
 
 // A step: 1, 12, 14.
-#[unsafe(no_mangle)]
-pub extern "C" fn test_step_carried(
+pub fn test_step_carried(
     bytes: &[u8],
     cards: u32,
     links: u32,
@@ -88,8 +84,7 @@ pub extern "C" fn test_step_carried(
 }
 
 // A walk by caller: 1, 12, 18, 14, 15.
-#[unsafe(no_mangle)]
-pub extern "C" fn test_walk_carried(
+pub fn test_walk_carried(
     bytes: &[u8],
     cards: u32,
     links: u32,
@@ -121,8 +116,7 @@ pub extern "C" fn test_walk_carried(
 }
 
 // A conference card: 1, 12, 13, 14.
-#[unsafe(no_mangle)]
-pub extern "C" fn test_conference_carried(
+pub fn test_conference_carried(
     bytes: &[u8],
     cards: u32,
     links: u32,
@@ -145,8 +139,7 @@ pub extern "C" fn test_conference_carried(
 }
 
 // A card more: 1, 12, 13, 14, 16. The fields are the new plan's length and its sum.
-#[unsafe(no_mangle)]
-pub extern "C" fn test_add_carried(
+pub fn test_add_carried(
     bytes: &[u8],
     cards: u32,
     links: u32,
@@ -168,8 +161,7 @@ pub extern "C" fn test_add_carried(
 }
 
 // The last card taken off: 1, 12, 13, 17. The fields are the new plan's length and its sum.
-#[unsafe(no_mangle)]
-pub extern "C" fn test_take_off_carried(
+pub fn test_take_off_carried(
     bytes: &[u8],
     cards: u32,
     links: u32,

@@ -35,13 +35,7 @@ pub mod carrying;
 pub mod opening;
 
 // Planning: 1 to 11. The fields are the link or card, and the columns.
-#[unsafe(no_mangle)]
-pub extern "C" fn test_plan_rack(
-    file: &[u8],
-    words: &mut [u64],
-    hops: &mut [u8],
-    answer: &mut [u32],
-) -> u32
+pub fn test_plan_rack(file: &[u8], words: &mut [u64], hops: &mut [u8], answer: &mut [u32]) -> u32
     ensures { Answered 2 result answer.old answer.new ((words.new ≡ words.old) × (hops.new ≡ hops.old)) (PlanSays file.now (answer_in result answer.new) words.old words.new hops.old hops.new) }
 {
     if answer.len() != 2 {
@@ -51,8 +45,7 @@ pub extern "C" fn test_plan_rack(
 }
 
 // The listing: 1. The fields are 0, and its length.
-#[unsafe(no_mangle)]
-pub extern "C" fn test_listing_text(file: &[u8], text: &mut [u8], answer: &mut [u32]) -> u32
+pub fn test_listing_text(file: &[u8], text: &mut [u8], answer: &mut [u32]) -> u32
     ensures { Answered 2 result answer.old answer.new (text.new ≡ text.old) (ListingSays file.now (answer_in result answer.new) text.old text.new) }
 {
     if answer.len() != 2 {
@@ -62,8 +55,7 @@ pub extern "C" fn test_listing_text(file: &[u8], text: &mut [u8], answer: &mut [
 }
 
 // A card's address: 12, 13, 14.
-#[unsafe(no_mangle)]
-pub extern "C" fn test_card_address<'a>(plan: &'a [u8], card: u32, part: &mut &'a [u8]) -> u32
+pub fn test_card_address<'a>(plan: &'a [u8], card: u32, part: &mut &'a [u8]) -> u32
     ensures number { result ≡ address_refusal plan.now card }
     ensures part { AddressSays plan.now plan.entry.ref_ptr card part.new }
 {
@@ -74,8 +66,7 @@ pub extern "C" fn test_card_address<'a>(plan: &'a [u8], card: u32, part: &mut &'
 
 // The differing places of two cards of a plan, whose sizes and table are made here: 1, 12, 14. The fields are their number, 1 for a column
 // or 0 for none, and the lowest column; zeros with a refusal.
-#[unsafe(no_mangle)]
-pub extern "C" fn test_plan_places(plan: &[u8], a: u32, b: u32, answer: &mut [u32]) -> u32
+pub fn test_plan_places(plan: &[u8], a: u32, b: u32, answer: &mut [u32]) -> u32
     ensures { Answered 3 result answer.old answer.new Unit (PlacesSay plan.now a b result answer.new) }
 {
     if answer.len() != 3 {
@@ -95,8 +86,7 @@ pub extern "C" fn test_plan_places(plan: &[u8], a: u32, b: u32, answer: &mut [u3
 }
 
 // A step: 1, 12, 14. The fields are its outcome, the link and the far card, 1 for a column or 0 for none, and the column.
-#[unsafe(no_mangle)]
-pub extern "C" fn test_step_frame(plan: &[u8], from: u32, goal: u32, answer: &mut [u32]) -> u32
+pub fn test_step_frame(plan: &[u8], from: u32, goal: u32, answer: &mut [u32]) -> u32
     ensures { Answered 5 result answer.old answer.new Unit (FrameStepSays plan.now from goal (frame_step_in result answer.new)) }
 {
     if answer.len() != 5 {
@@ -107,8 +97,7 @@ pub extern "C" fn test_step_frame(plan: &[u8], from: u32, goal: u32, answer: &mu
 
 // A walk: 1, 12, 14, 15. The fields are 1 for arrived or 0 for stuck, the hops, the two counts, 1 for a column or 0 for none,
 // and the column.
-#[unsafe(no_mangle)]
-pub extern "C" fn test_walk_frame(
+pub fn test_walk_frame(
     plan: &[u8],
     from: u32,
     goal: u32,
@@ -130,14 +119,7 @@ pub extern "C" fn test_walk_frame(
 }
 
 // A conference card: 1, 12, 13, 14. The fields are 1 for a card or 0 for none, and the card.
-#[unsafe(no_mangle)]
-pub extern "C" fn test_conference_card(
-    plan: &[u8],
-    a: u32,
-    b: u32,
-    c: u32,
-    answer: &mut [u32],
-) -> u32
+pub fn test_conference_card(plan: &[u8], a: u32, b: u32, c: u32, answer: &mut [u32]) -> u32
     ensures { Answered 2 result answer.old answer.new Unit (ConferenceSays plan.now a b c (conference_in result answer.new)) }
 {
     if answer.len() != 2 {
@@ -147,8 +129,7 @@ pub extern "C" fn test_conference_card(
 }
 
 // Reading with the sum of hops: 1, 12, 13. The fields are the three sizes and the sum.
-#[unsafe(no_mangle)]
-pub extern "C" fn test_read_summed(plan: &[u8], answer: &mut [u32]) -> u32
+pub fn test_read_summed(plan: &[u8], answer: &mut [u32]) -> u32
     ensures { Answered 4 result answer.old answer.new Unit (SummedSays plan.now (summed_in result answer.new)) }
 {
     if answer.len() != 4 {
@@ -158,8 +139,7 @@ pub extern "C" fn test_read_summed(plan: &[u8], answer: &mut [u32]) -> u32
 }
 
 // A card more: 1, 12, 13, 14, 16. The fields are the new plan's length and its sum.
-#[unsafe(no_mangle)]
-pub extern "C" fn test_add_card(
+pub fn test_add_card(
     plan: &[u8],
     total: u32,
     card: u32,
@@ -175,13 +155,7 @@ pub extern "C" fn test_add_card(
 }
 
 // The last card taken off: 1, 12, 13, 17. The fields are the new plan's length and its sum.
-#[unsafe(no_mangle)]
-pub extern "C" fn test_take_card_off(
-    plan: &[u8],
-    total: u32,
-    output: &mut [u8],
-    answer: &mut [u32],
-) -> u32
+pub fn test_take_card_off(plan: &[u8], total: u32, output: &mut [u8], answer: &mut [u32]) -> u32
     ensures { Answered 2 result answer.old answer.new (output.new ≡ output.old) (TakeOffSays plan.now total (summed_plan_in result answer.new) output.old output.new) }
 {
     if answer.len() != 2 {

@@ -33,8 +33,7 @@ fn open_and_walk(
 }
 
 // A step on an opened plan: 1, 12, 14.
-#[unsafe(no_mangle)]
-pub extern "C" fn test_opened_step(bytes: &[u8], from: u32, goal: u32, answer: &mut [u32]) -> u32
+pub fn test_opened_step(bytes: &[u8], from: u32, goal: u32, answer: &mut [u32]) -> u32
     ensures { Answered 5 result answer.old answer.new Unit (FrameStepSays (opened_for bytes.now) from goal (frame_step_in result answer.new)) }
 {
     if answer.len() != 5 {
@@ -44,8 +43,7 @@ pub extern "C" fn test_opened_step(bytes: &[u8], from: u32, goal: u32, answer: &
 }
 
 // A walk by caller on an opened plan: 1, 12, 18, 14, 15.
-#[unsafe(no_mangle)]
-pub extern "C" fn test_opened_walk(
+pub fn test_opened_walk(
     bytes: &[u8],
     from: u32,
     goal: u32,
