@@ -22,17 +22,26 @@ fn bits_apart(x: u64, y: u64) -> u64 {
     x & !y
 }
 
-// The place of the lowest bit, and of the highest, of a word that is not 0.
+// The place of the lowest bit of a word that is not 0.
 fn lowest_bit(x: u64) -> usize
     ensures { result < 64 }
 {
-    (u64::trailing_zeros(x) % 64) as usize
+    let mut i: usize = 0;
+    while i < 63 && (x >> i) % 2 == 0 {
+        i += 1;
+    }
+    i
 }
 
+// The same of the highest.
 fn highest_bit(x: u64) -> usize
     ensures { result < 64 }
 {
-    63 - (u64::leading_zeros(x) % 64) as usize
+    let mut i: usize = 63;
+    while 0 < i && x >> i == 0 {
+        i -= 1;
+    }
+    i
 }
 
 // The lowest label of card `a` that card `b` has not, or 0.

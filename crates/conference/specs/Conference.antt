@@ -16,7 +16,7 @@ OnShortest w a x b = (cs : List ℕ) × (is_path w a cs b ≡ true) × (length c
 abbrev pub OnAllThree : Wiring → (a b c x : ℕ) → Type 0
 OnAllThree w a b c x = OnShortest w a x b × OnShortest w a x c × OnShortest w b x c
 
--- the same tests by sums of hops (`Between-means`)
+-- the same tests by sums of hops (`BetweenMeans`)
 unfoldable pub between : Wiring → (a x b : ℕ) → Bool
 between w a x b = eqb (hops w a x + hops w x b) (hops w a b)
 

@@ -20,7 +20,7 @@ module _ (ps : List ℕ) where
   abbrev inner : Wiring
   inner = plan_wiring ps
 
-  -- what `leads-nearer` says
+  -- what `leads_nearer` says
   pub record Nearer (a b : ℕ) (l : Link) : Type 0 where
     pub first : l.first < plan_cards ps
     pub second : l.second < plan_cards ps

@@ -83,7 +83,7 @@ FrameArrives =
     × ((cs : List ℕ) × ((walk ps a b).met ≡ a ∷ cs) × (is_path (plan_wiring ps) a cs b ≡ true) × (length cs ≡ hops (plan_wiring ps) a b))
 
 -- demand 3 of the call, with every condition written out: "every frame on a plan that was read arrives by the fewest links", where the
--- counts can take it. `Frame` and `Can-take` have no condition besides these
+-- counts can take it. `Frame` and `CanTake` have no condition besides these
 unfoldable pub WalkArrives : Type 0
 WalkArrives =
     (ps : List ℕ) (a b : ℕ) (t : Tally) (r : Walked) (old new : List ℕ) → WalkSays ps a b t r old new →

@@ -11,7 +11,7 @@ use Rattle.forwarder.specs.Calls.{Arrived}
 use Rattle.jolvente.specs.Records.{lent_record, lent_met_bytes, cards_in, counts_in, walked_in}
 use Rattle.jolvente.specs.CCalls.{CWriteSays, CFound, CReadSays, CWalkSays, CFull}
 
--- demands 2 and 3 (docs/REQUIREMENTS.md) of the writer: `C-asked` has no condition besides these
+-- demands 2 and 3 (docs/REQUIREMENTS.md) of the writer: `CAsked` has no condition besides these
 unfoldable pub CWritingFinds : Type 0
 CWritingFinds =
     (bs : List ℕ) (r : ℕ) (plan plan_now rec rec_now : List ℕ) → CWriteSays bs r plan plan_now rec rec_now →
@@ -22,7 +22,7 @@ CWritingFinds =
 unfoldable pub CReadingMeasures : Type 0
 CReadingMeasures = (ps : List ℕ) (r : ℕ) (rec rec_now : List ℕ) → CReadSays ps r rec rec_now → r ≡ 0 → Measured ps
 
--- demand 3 of the walk, of what C reads back from the lent bytes, where the record's counts are its caller's: `C-frame` and `Can-take` have no
+-- demand 3 of the walk, of what C reads back from the lent bytes, where the record's counts are its caller's: `CFrame` and `CanTake` have no
 -- condition besides these
 unfoldable pub CWalkArrives : Type 0
 CWalkArrives =

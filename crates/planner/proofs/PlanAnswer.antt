@@ -9,7 +9,6 @@ use lib.Dec.{eqb}
 use lib.ListN.{length, replicate}
 use borrow.Author.Tests.{eq-eqb, ne_eqb}
 use Rattle.rack.specs.Wiring.{link_count}
-use Rattle.rack.specs.Hops.{hops}
 use Rattle.rack.specs.Columns.{column_count}
 use Rattle.rack.specs.WiringFile.{file_wiring, file_refusal}
 use Rattle.rack.proofs.Logic.{by_eq}

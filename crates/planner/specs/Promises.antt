@@ -14,7 +14,7 @@ PlanningFinds =
     length words ≡ lent_words → length hop_bytes ≡ lent_hops → (form_refusal bs).number ≡ 0 → connected (file_wiring bs) ≡ true →
     AddressesFound (file_wiring bs) r words_now hop_bytes_now
 
--- demands 2 and 3 of plan writing, of the bits read back from the bytes: `Asked-to-write` has no condition besides these
+-- demands 2 and 3 of plan writing, of the bits read back from the bytes: `AskedToWrite` has no condition besides these
 unfoldable pub WritingFinds : Type 0
 WritingFinds =
     (bs output output_now : List ℕ) (r : Answer) → WriteSays bs r output output_now →

@@ -1,15 +1,8 @@
 -- The first t bytes of the address are appended. Assumes nothing.
-use mathlib.Core.Path.{◌≡◌, subst, sym}
-use mathlib.Core.List.{◌++◌, ◌∷◌, []}
-use Prim.Native.Nat.{ℕ}
-use Rattle.rack.specs.Buffers.{Appends}
 use Prim.Native.Nat.{◌-◌, ◌≤◌}
-use native.Mathlib.Omega.{arith}
-use mathlib.Core.Path.{ap, ◌∙◌}
 use Rattle.rack.specs.Lists.{tabulate}
-use Rattle.rack.proofs.Tables.{length_tabulate, tabulate_snoc}
 use Rattle.plan_writer.specs.Writing.{word_byte}
-use Rattle.rack.proofs.Appending.{Appended, appended_none, appended_byte}
+use Rattle.rack.proofs.Appending.{Appended}
 use Rattle.plan_writer.proofs.put_address.Given as goal
 
 abbrev pub invariant-loop-t : goal.invariant-loop-t

@@ -1,8 +1,8 @@
 -- The addresses of the first c cards are appended. Assumes nothing.
-use Rattle.rack.proofs.Appending.{appended_block, Appended, appended_none}
+use Rattle.rack.proofs.Appending.{appended_block, appended_none}
 use Rattle.plan_writer.proofs.WrittenPlan.{address_room, address_inside}
 use mathlib.Core.Path.{◌≡◌, subst}
-use Prim.Native.Nat.{ℕ, ◌-◌, ◌≤◌}
+use Prim.Native.Nat.{ℕ}
 use native.Mathlib.Omega.{arith}
 use Rattle.rack.specs.Lists.{tabulate, blocks}
 use Rattle.rack.proofs.Tables.{length_tabulate}

@@ -1,12 +1,7 @@
 -- The addresses of the first c cards are appended. Assumes nothing.
-use Rattle.rack.proofs.Appending.{appended_block, Appended, appended_none}
-use Rattle.plan_writer.proofs.WrittenPlan.{address_room, address_inside}
-use mathlib.Core.Path.{◌≡◌, subst}
-use Prim.Native.Nat.{ℕ, ◌-◌, ◌≤◌}
-use native.Mathlib.Omega.{arith}
+use Rattle.rack.proofs.Appending.{Appended}
+use Prim.Native.Nat.{◌-◌, ◌≤◌}
 use Rattle.rack.specs.Lists.{tabulate, blocks}
-use Rattle.rack.proofs.Tables.{length_tabulate}
-use Rattle.rack.specs.Buffers.{Appends}
 use Rattle.plan_writer.specs.Writing.{word_byte}
 use Rattle.plan_writer.proofs.put_addresses.Given as goal
 

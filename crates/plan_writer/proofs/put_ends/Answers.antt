@@ -1,12 +1,12 @@
 -- The first i ends are appended. Assumes nothing.
 use mathlib.Core.Path.{◌≡◌, subst}
-use Prim.Native.Nat.{ℕ, ◌+◌, ◌*◌, ◌-◌, ◌≤◌}
+use Prim.Native.Nat.{ℕ, ◌+◌, ◌*◌}
 use native.Mathlib.Omega.{arith}
 use Rattle.rack.specs.Lists.{blocks}
 use Rattle.rack.specs.Buffers.{two_bytes, number_at, Appends}
 use Rattle.rack.proofs.WiringFile.{length_two_bytes}
 use Rattle.plan_writer.specs.Writing.{end_pair}
-use Rattle.rack.proofs.Appending.{Appended, appended_none, appended_block}
+use Rattle.rack.proofs.Appending.{appended_none, appended_block}
 use Rattle.plan_writer.proofs.put_ends.Goals as goal
 
 pub loop-i-init : goal.loop-i-init

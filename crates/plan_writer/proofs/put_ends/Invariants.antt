@@ -1,12 +1,8 @@
 -- The first i ends are appended. Assumes nothing.
-use mathlib.Core.Path.{◌≡◌, subst}
-use Prim.Native.Nat.{ℕ, ◌+◌, ◌*◌, ◌-◌, ◌≤◌}
-use native.Mathlib.Omega.{arith}
+use Prim.Native.Nat.{◌-◌, ◌≤◌}
 use Rattle.rack.specs.Lists.{blocks}
-use Rattle.rack.specs.Buffers.{two_bytes, number_at, Appends}
-use Rattle.rack.proofs.WiringFile.{length_two_bytes}
 use Rattle.plan_writer.specs.Writing.{end_pair}
-use Rattle.rack.proofs.Appending.{Appended, appended_none, appended_block}
+use Rattle.rack.proofs.Appending.{Appended}
 use Rattle.plan_writer.proofs.put_ends.Given as goal
 
 abbrev pub invariant-loop-i : goal.invariant-loop-i

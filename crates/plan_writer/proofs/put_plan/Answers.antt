@@ -1,7 +1,6 @@
 -- Sizes, ends and addresses are appended in this order, and fit. Assumes nothing.
 use native.Mathlib.Omega.{arith}
 use Rattle.plan_writer.proofs.WrittenPlan.{addresses_room, zeros_long, plan_written, plan_length}
-use borrow.Author.Rules.{rules}
 use Rattle.plan_writer.proofs.put_plan.Goals as goal
 
 pub put_sizes-requires : goal.put_sizes-requires

@@ -1,6 +1,5 @@
 -- One number is appended after the other. Assumes nothing.
 use Rattle.plan_writer.proofs.WrittenPlan.{sizes_appended}
-use borrow.Author.Rules.{rules}
 use Rattle.plan_writer.proofs.put_sizes.Goals as goal
 
 pub returns : goal.returns

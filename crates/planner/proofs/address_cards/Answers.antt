@@ -1,11 +1,10 @@
 -- The test of all pairs over the columns decides whether there is an embedding. Assumes nothing.
 use mathlib.Core.Path.{◌∙◌, ap}
-use Prim.Native.Nat.{ℕ, ◌<◌}
+use Prim.Native.Nat.{ℕ}
 use native.Mathlib.Omega.{arith}
 use lib.ListN.{length, length-replicate}
 use Rattle.planner.proofs.AddressWords.{opened_used}
 use Rattle.planner.proofs.MeasuredPairs.{measured_addressed, unmeasured_addressed, full_addressed}
-use borrow.Author.Rules.{rules}
 use Rattle.rack.specs.Limits.{lent_words}
 use Rattle.planner.proofs.address_cards.Goals as goal
 

@@ -5,7 +5,6 @@ use Rattle.rack.specs.Limits.{lent_words}
 use Rattle.rack.proofs.Zeros.{zeros_long}
 use Rattle.survey.proofs.Forms.{formed_cards}
 use Rattle.planner.proofs.RackPlanned.{odd_planned, none_planned, found_planned}
-use borrow.Author.Rules.{rules}
 use Rattle.planner.proofs.plan_connected.Goals as goal
 
 pub returns-then-f-ne0 : goal.returns-then-f-ne0

@@ -9,7 +9,6 @@ use Rattle.rack.proofs.Zeros.{zeros_long}
 use Rattle.survey.proofs.Forms.{sizes_are}
 use Rattle.planner.proofs.RackPlanned.{sizes_planned, links_planned, links_formed, rack_file_planned}
 use mathlib.Core.List.{[]}
-use borrow.Author.Rules.{rules}
 use Rattle.planner.proofs.plan_file.Goals as goal
 
 pub returns-then-x-ne0 : goal.returns-then-x-ne0

@@ -2,7 +2,6 @@
 use Rattle.rack.specs.Limits.{lent_words}
 use Rattle.rack.proofs.Zeros.{zeros_long}
 use Rattle.planner.proofs.RackPlanned.{reached, unreached_planned}
-use borrow.Author.Rules.{rules}
 use Rattle.planner.proofs.plan_formed.Goals as goal
 
 pub returns-then-f-ne0 : goal.returns-then-f-ne0

@@ -7,7 +7,6 @@ use lib.ListN.{length, replicate}
 use borrow.Author.Tests.{ne_eqb}
 use Rattle.planner.proofs.PlanAnswer.{plan_says_one, plan_says_found, plan_says_refused}
 use Rattle.planner.proofs.PlanPromise.{addresses_found}
-use borrow.Author.Rules.{rules}
 use Rattle.rack.specs.Limits.{lent_hops, lent_words}
 use Rattle.planner.proofs.plan_rack.Goals as goal
 

@@ -5,7 +5,6 @@ use native.Mathlib.Omega.{arith}
 use lib.ListN.{replicate}
 use Rattle.planner.proofs.WriteAnswer.{write_says_one, write_says_refused, written_sizes, columns_few, write_says_found}
 use Rattle.planner.proofs.WritePromise.{plan_found}
-use borrow.Author.Rules.{rules}
 use Rattle.planner.proofs.write_plan.Goals as goal
 
 pub returns-then-output-ne-LENT_PLAN : goal.returns-then-output-ne-LENT_PLAN

@@ -1,7 +1,5 @@
 -- Safe: the queue has its cards. Assumes nothing.
-use native.Mathlib.Omega.{arith}
 use Prim.Native.Nat.{◌≤◌, ◌-◌, ◌+◌}
-use borrow.Author.Rules.{rules}
 use Rattle.column_guess.proofs.columns.address_cards.Given as goal
 
 abbrev pub invariant-loop-h : goal.invariant-loop-h

@@ -1,8 +1,6 @@
 -- The loop's invariant: the buffer has its length. Assumes nothing.
 use native.Mathlib.Omega.{arith}
-use mathlib.Core.Path.{◌≡◌}
-use lib.ListN.{length, length-set}
-use Prim.Native.Nat.{◌≤◌, ◌-◌}
+use lib.ListN.{length-set}
 use Rattle.column_guess.proofs.columns.copy_addresses.Goals as goal
 
 pub loop-i-preserved : goal.loop-i-preserved

@@ -1,7 +1,6 @@
 -- The loop's invariant: the buffer has its length. Assumes nothing.
-use native.Mathlib.Omega.{arith}
 use mathlib.Core.Path.{◌≡◌}
-use lib.ListN.{length, length-set}
+use lib.ListN.{length}
 use Prim.Native.Nat.{◌≤◌, ◌-◌}
 use Rattle.column_guess.proofs.columns.copy_addresses.Given as goal
 

@@ -1,7 +1,5 @@
 -- Safe: there are at most 255 labels. Assumes nothing.
-use native.Mathlib.Omega.{arith}
 use Prim.Native.Nat.{◌≤◌, ◌-◌}
-use borrow.Author.Rules.{rules}
 use Rattle.column_guess.proofs.columns.number_labels.Given as goal
 
 abbrev pub invariant-loop-i : goal.invariant-loop-i

@@ -1,7 +1,5 @@
 -- Safe: the list has its entries. Assumes nothing.
-use native.Mathlib.Omega.{arith}
 use Prim.Native.Nat.{◌≤◌, ◌-◌}
-use borrow.Author.Rules.{rules}
 use Rattle.column_guess.proofs.labels.entry_up.Given as goal
 
 abbrev pub invariant-loop-k : goal.invariant-loop-k

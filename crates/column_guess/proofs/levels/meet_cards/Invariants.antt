@@ -1,7 +1,5 @@
 -- Safe: the queue has room for each card. Assumes nothing.
-use native.Mathlib.Omega.{arith}
 use Prim.Native.Nat.{◌≤◌, ◌-◌}
-use borrow.Author.Rules.{rules}
 use Rattle.column_guess.proofs.levels.meet_cards.Given as goal
 
 abbrev pub invariant-loop-head : goal.invariant-loop-head

@@ -1,7 +1,5 @@
 -- Safe: the labels found are at most 256. Assumes nothing.
-use native.Mathlib.Omega.{arith}
 use Prim.Native.Nat.{◌≤◌, ◌-◌}
-use borrow.Author.Rules.{rules}
 use Rattle.column_guess.proofs.ways.close_loop.Given as goal
 
 abbrev pub invariant-loop-i : goal.invariant-loop-i

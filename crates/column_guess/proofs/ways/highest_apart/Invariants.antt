@@ -1,7 +1,5 @@
 -- Safe: a word of a card stands below 1,024, and a label below 256. Assumes nothing.
-use native.Mathlib.Omega.{arith}
 use Prim.Native.Nat.{◌≤◌}
-use borrow.Author.Rules.{rules}
 use Rattle.column_guess.proofs.ways.highest_apart.Given as goal
 
 abbrev pub invariant-loop-t : goal.invariant-loop-t

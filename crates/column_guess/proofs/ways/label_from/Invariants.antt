@@ -1,5 +1,4 @@
 -- Safe: a word of a card stands below 1,024. Assumes nothing.
-use native.Mathlib.Omega.{arith}
 use Prim.Native.Nat.{◌≤◌, ◌-◌}
 use Rattle.column_guess.proofs.ways.label_from.Given as goal
 

@@ -1,7 +1,5 @@
 -- Safe: the labels found have room. Assumes nothing.
-use native.Mathlib.Omega.{arith}
 use Prim.Native.Nat.{◌≤◌, ◌<◌, ◌-◌}
-use borrow.Author.Rules.{rules}
 use Rattle.column_guess.proofs.ways.labels_up.Given as goal
 
 abbrev pub invariant-loop-steps : goal.invariant-loop-steps

@@ -1,7 +1,5 @@
 -- Safe: there are at most 2,048 links. Assumes nothing.
-use native.Mathlib.Omega.{arith}
 use Prim.Native.Nat.{◌≤◌, ◌-◌}
-use borrow.Author.Rules.{rules}
 use Rattle.column_guess.proofs.ways.rename_links.Given as goal
 
 abbrev pub invariant-loop-i : goal.invariant-loop-i

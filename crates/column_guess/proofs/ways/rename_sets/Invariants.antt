@@ -1,7 +1,5 @@
 -- Safe: a word of a card stands below 1,024. Assumes nothing.
-use native.Mathlib.Omega.{arith}
 use Prim.Native.Nat.{◌≤◌, ◌-◌}
-use borrow.Author.Rules.{rules}
 use Rattle.column_guess.proofs.ways.rename_sets.Given as goal
 
 abbrev pub invariant-loop-c : goal.invariant-loop-c

@@ -4,7 +4,6 @@ use Prim.Native.Nat.{ℕ, ◌<◌}
 use native.Mathlib.Omega.{arith}
 use mathlib.Core.List.{List}
 use lib.Dec.{eqb}
-use borrow.Author.Rules.{rules}
 use Rattle.rack.specs.Wiring.{link_count}
 use Rattle.rack.specs.PlanFile.{plan_cards, plan_links, plan_wiring}
 use Rattle.rack.proofs.Logic.{true_not_false}

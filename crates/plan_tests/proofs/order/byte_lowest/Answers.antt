@@ -1,10 +1,6 @@
 -- No bit before i differs. Assumes nothing.
-use mathlib.Core.Path.{◌≡◌}
-use mathlib.Core.Bool.{false}
-use Prim.Native.Nat.{ℕ, ◌-◌, ◌≤◌, ◌<◌}
 use native.Mathlib.Omega.{arith}
 use borrow.Author.Count.{below_more}
-use Rattle.rack.specs.Lists.{differ}
 use Rattle.rack.specs.Bits.{number_bit}
 use Rattle.plan_tests.proofs.LowestPlaces.{bit_apart, bit_equal, lowest_here, lowest_nowhere}
 use Rattle.plan_tests.proofs.order.byte_lowest.Goals as goal

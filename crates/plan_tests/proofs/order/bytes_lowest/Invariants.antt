@@ -1,12 +1,7 @@
 -- The first t bytes agree. Assumes nothing.
-use mathlib.Core.Path.{◌≡◌, ap, ◌∙◌}
-use Prim.Native.Nat.{ℕ, ◌+◌, ◌*◌, ◌-◌, ◌≤◌, ◌<◌}
-use native.Mathlib.Omega.{arith}
-use borrow.Author.Count.{below_more}
-use borrow.Author.Rules.{rules}
+use mathlib.Core.Path.{◌≡◌}
+use Prim.Native.Nat.{ℕ, ◌+◌, ◌-◌, ◌≤◌, ◌<◌}
 use lib.ListN.{get_or}
-use Rattle.rack.specs.PlanFile.{bit_from}
-use Rattle.plan_tests.proofs.LowestPlaces.{lowest_nowhere, agree_bits, byte_here}
 use Rattle.plan_tests.proofs.order.bytes_lowest.Given as goal
 
 abbrev pub invariant-loop-t : goal.invariant-loop-t

@@ -3,13 +3,10 @@
 -- what is known of link i, where its column is found
 use mathlib.Core.Path.{◌≡◌, refl, sym, ap, ◌∙◌}
 use mathlib.Core.Bool.{false}
-use mathlib.Core.Logic.{⊎_elim}
-use Prim.Native.Nat.{ℕ, ◌+◌, ◌-◌, ◌≤◌}
+use Prim.Native.Nat.{ℕ, ◌+◌}
 use native.Mathlib.Omega.{arith}
 use Rattle.rack.specs.PlanFile.{plan_bit, plan_wiring}
 use Rattle.rack.proofs.Logic.{true_not_false}
-use Rattle.plan_tests.specs.Tests.{columns_in_order}
-use Rattle.plan_tests.specs.Crossed.{CrossedColumns}
 use Rattle.plan_tests.proofs.OrderedLinks.{NextOpen, opens_one, opens_no, crossed_more, in_order_from, ColumnFound, column_found, ends_inside, all_seen}
 use Rattle.plan_tests.proofs.order.order_holds.Goals as goal
 use Rattle.plan_tests.proofs.order.order_holds.Goals.{After-only_column-j, then-j-opened, else-j-opened}

@@ -1,16 +1,12 @@
 -- All links are in order exactly if those from i on are, with the columns opened so far; the columns that those before i cross are written. Assumes
 -- nothing.
 -- what is known of link i, where its column is found
-use mathlib.Core.Path.{◌≡◌, refl, sym, ap, ◌∙◌}
-use mathlib.Core.Bool.{false}
-use mathlib.Core.Logic.{⊎_elim}
-use Prim.Native.Nat.{ℕ, ◌+◌, ◌-◌, ◌≤◌}
-use native.Mathlib.Omega.{arith}
+use mathlib.Core.Path.{◌≡◌}
+use Prim.Native.Nat.{◌-◌, ◌≤◌}
 use Rattle.rack.specs.PlanFile.{plan_bit, plan_wiring}
-use Rattle.rack.proofs.Logic.{true_not_false}
 use Rattle.plan_tests.specs.Tests.{columns_in_order}
 use Rattle.plan_tests.specs.Crossed.{CrossedColumns}
-use Rattle.plan_tests.proofs.OrderedLinks.{NextOpen, opens_one, opens_no, crossed_more, in_order_from, ColumnFound, column_found, ends_inside, all_seen}
+use Rattle.plan_tests.proofs.OrderedLinks.{in_order_from}
 use Rattle.plan_tests.proofs.order.order_holds.Given as goal
 
 abbrev pub invariant-loop-i : goal.invariant-loop-i

@@ -1,9 +1,9 @@
 -- The first t bytes of card 0 are zero. Assumes nothing.
 use mathlib.Core.Path.{◌≡◌}
-use Prim.Native.Nat.{ℕ, ◌+◌, ◌-◌, ◌/◌, ◌≤◌, ◌<◌}
+use Prim.Native.Nat.{◌+◌, ◌/◌, ◌≤◌}
 use native.Mathlib.Omega.{arith}
 use borrow.Author.Count.{below_more}
-use lib.ListN.{length, get_or}
+use lib.ListN.{length}
 use Rattle.rack.specs.PlanFile.{address_start}
 use Rattle.plan_tests.proofs.Places.{address_counted}
 use Rattle.plan_tests.proofs.ZeroBytes.{bytes_first, byte_not_first}

@@ -1,16 +1,9 @@
 -- The first c cards have no spare bit. Assumes nothing.
-use mathlib.Core.Path.{◌≡◌, sym, ◌∙◌}
+use mathlib.Core.Path.{◌≡◌}
 use mathlib.Core.Bool.{true}
-use mathlib.Core.Logic.{◌≢◌}
-use Prim.Native.Nat.{ℕ, ◌+◌, ◌-◌, ◌/◌, ◌%◌, ◌≤◌, ◌<◌}
-use native.Mathlib.Omega.{arith}
-use borrow.Author.Count.{below_more}
-use lib.ListN.{length}
-use Rattle.rack.specs.PlanFile.{plan_bit, address_size, address_start}
-use Rattle.rack.proofs.Bits.{bit_weight}
+use Prim.Native.Nat.{ℕ, ◌-◌, ◌≤◌, ◌<◌}
+use Rattle.rack.specs.PlanFile.{plan_bit}
 use Rattle.plan_tests.specs.Tests.{spare_card}
-use Rattle.plan_tests.proofs.Places.{address_counted}
-use Rattle.plan_tests.proofs.ZeroBytes.{spare_whole, low_spare, spare_low, all_spare, one_not_spare}
 use Rattle.plan_tests.proofs.zeros.spare_zero.Given as goal
 
 abbrev pub invariant-loop-c : goal.invariant-loop-c

@@ -1,9 +1,9 @@
 -- Invariant: the words of the cards before `c` have their side added at place `k`, and the other words are as at entry. Assumes nothing.
 use mathlib.Core.Path.{◌≡◌, ap, ◌∙◌}
-use Prim.Native.Nat.{ℕ, ◌+◌, ◌*◌, ◌-◌, ◌/◌, ◌%◌, ◌≤◌}
+use Prim.Native.Nat.{ℕ, ◌+◌, ◌*◌, ◌/◌, ◌%◌}
 use native.Mathlib.Omega.{arith}
 use lib.ListN.{get_or}
-use Rattle.planner.specs.OpenColumns.{side_in, ColumnAdded}
+use Rattle.planner.specs.OpenColumns.{side_in}
 use Rattle.planner.proofs.AddedColumn.{weighed, bit_fits, none_added, more_added}
 use Rattle.planner.proofs.columns.add_column.Goals as goal
 

@@ -1,10 +1,6 @@
 -- Invariant: the words of the cards before `c` have their side added at place `k`, and the other words are as at entry. Assumes nothing.
-use mathlib.Core.Path.{◌≡◌, ap, ◌∙◌}
-use Prim.Native.Nat.{ℕ, ◌+◌, ◌*◌, ◌-◌, ◌/◌, ◌%◌, ◌≤◌}
-use native.Mathlib.Omega.{arith}
-use lib.ListN.{get_or}
-use Rattle.planner.specs.OpenColumns.{side_in, ColumnAdded}
-use Rattle.planner.proofs.AddedColumn.{weighed, bit_fits, none_added, more_added}
+use Prim.Native.Nat.{◌-◌, ◌≤◌}
+use Rattle.planner.specs.OpenColumns.{ColumnAdded}
 use Rattle.planner.proofs.columns.add_column.Given as goal
 
 abbrev pub invariant-loop-c : goal.invariant-loop-c

@@ -1,9 +1,6 @@
 -- Invariant: the words hold the columns that the first `i` links open, `k` of them, fewer than cards. Assumes nothing.
 use mathlib.Core.Path.{◌≡◌, sym, ◌∙◌}
-use Prim.Native.Nat.{◌-◌, ◌≤◌, ◌<◌}
 use native.Mathlib.Omega.{arith}
-use Rattle.rack.specs.WiringFile.{file_wiring}
-use Rattle.planner.specs.OpenColumns.{ColumnsOpened}
 use Rattle.planner.proofs.AddressWords.{zero_words}
 use Rattle.planner.proofs.LinkColumns.{no_columns_opened, full_columns_opened}
 use Rattle.planner.proofs.columns.open_columns.Goals as goal

@@ -2,7 +2,6 @@
 use mathlib.Core.Path.{sym, ◌∙◌}
 use mathlib.Core.Bool.{true, false}
 use native.Mathlib.Nat.{zero-mul, one-mul}
-use borrow.Author.Rules.{rules}
 use borrow.Author.Tests.{lt-ltb, le-ltb}
 use Rattle.planner.proofs.AddedColumn.{side_weight_is}
 use Rattle.planner.proofs.columns.side_weight.Goals as goal

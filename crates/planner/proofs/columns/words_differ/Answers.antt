@@ -1,9 +1,6 @@
 -- Invariant: the words of the two cards before word t are equal. Assumes nothing.
-use mathlib.Core.Path.{◌≡◌}
 use mathlib.Core.Bool.{true≢false, false≢true}
-use Prim.Native.Nat.{ℕ, ◌+◌, ◌*◌, ◌-◌, ◌≤◌, ◌<◌}
 use native.Mathlib.Omega.{arith}
-use lib.ListN.{get_or}
 use borrow.Author.Count.{below_more}
 use Rattle.planner.proofs.columns.words_differ.Goals as goal
 

@@ -1,10 +1,7 @@
 -- Invariant: the words of the two cards before word t are equal. Assumes nothing.
 use mathlib.Core.Path.{◌≡◌}
-use mathlib.Core.Bool.{true≢false, false≢true}
 use Prim.Native.Nat.{ℕ, ◌+◌, ◌*◌, ◌-◌, ◌≤◌, ◌<◌}
-use native.Mathlib.Omega.{arith}
 use lib.ListN.{get_or}
-use borrow.Author.Count.{below_more}
 use Rattle.planner.proofs.columns.words_differ.Given as goal
 
 abbrev pub invariant-loop-t : goal.invariant-loop-t

@@ -1,7 +1,6 @@
 -- The differing places of two cards are those of their four words, added; words that are not used have none. Assumes nothing.
 use native.Mathlib.Omega.{arith}
 use Rattle.planner.proofs.AddressWords.{words_hamming_parts, unused_part}
-use borrow.Author.Rules.{rules}
 use Rattle.planner.proofs.pairs.card_hamming.Goals as goal
 
 pub returns-then-used-le1 : goal.returns-then-used-le1

@@ -1,11 +1,9 @@
 -- Invariants: `measured` is true, and every pair of cards before `a`, and of `a` with a card before `b`, has as many differing places as hops. Assumes nothing.
 use mathlib.Core.Path.{◌≡◌, refl, sym, ◌∙◌}
-use mathlib.Core.Bool.{true, true≢false, false≢true}
-use Prim.Native.Nat.{ℕ, ◌+◌, ◌*◌, ◌-◌, ◌≤◌, ◌<◌}
+use mathlib.Core.Bool.{true≢false, false≢true}
+use Prim.Native.Nat.{◌+◌, ◌*◌}
 use native.Mathlib.Omega.{arith}
 use borrow.Author.Count.{below_more}
-use Rattle.survey.specs.Tables.{cell}
-use Rattle.planner.specs.OpenColumns.{words_hamming, PairsMeasure}
 use Rattle.planner.proofs.MeasuredPairs.{no_pairs, more_pairs}
 use Rattle.planner.proofs.pairs.pairs_measure.Goals as goal
 

@@ -1,5 +1,4 @@
 -- The first bounds are above the hops of a connected rack, and `settle` lowers them to hops. Assumes nothing.
-use borrow.Author.Rules.{rules}
 use Rattle.survey.proofs.FirstBounds.{formed_above}
 use Rattle.survey.proofs.hops.all_hops.Goals as goal
 

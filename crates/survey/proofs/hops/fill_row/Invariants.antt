@@ -1,10 +1,6 @@
 -- The first b places of the row are filled. Assumes nothing.
-use mathlib.Core.Path.{◌≡◌}
 use Prim.Native.Nat.{◌-◌, ◌≤◌}
-use native.Mathlib.Omega.{arith}
-use borrow.Author.Rules.{rules}
 use Rattle.survey.specs.Lowering.{RowFilled}
-use Rattle.survey.proofs.FirstBounds.{filled_none, filled_more}
 use Rattle.survey.proofs.hops.fill_row.Given as goal
 
 abbrev pub invariant-loop-b : goal.invariant-loop-b

@@ -1,7 +1,6 @@
 -- The row of the first end is lowered by that of the second, and then the other way; the larger of what the two took off is the link's. Assumes nothing.
 use mathlib.Core.Path.{◌∙◌}
 use native.Mathlib.Omega.{arith}
-use borrow.Author.Rules.{rules}
 use Rattle.survey.proofs.Passes.{link_passed}
 use Rattle.survey.proofs.hops.lower_link.Goals as goal
 

@@ -1,11 +1,7 @@
 -- The first i links have lowered the bounds: one link more each turn, and all m at the end. Assumes nothing.
-use mathlib.Core.Path.{◌≡◌, sym, ◌∙◌}
 use Prim.Native.Nat.{◌-◌, ◌≤◌}
-use native.Mathlib.Omega.{arith}
-use borrow.Author.Rules.{rules}
 use Rattle.rack.specs.WiringFile.{file_wiring}
 use Rattle.survey.specs.Lowering.{Passed}
-use Rattle.survey.proofs.Passes.{passed_none, passed_more}
 use Rattle.survey.proofs.hops.lower_pass.Given as goal
 
 abbrev pub invariant-loop-i : goal.invariant-loop-i

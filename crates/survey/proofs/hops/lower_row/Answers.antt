@@ -1,8 +1,6 @@
 -- The first b places are lowered: one place more each turn, and 256 at the end. Assumes nothing.
 use mathlib.Core.Path.{◌≡◌}
-use Prim.Native.Nat.{◌-◌, ◌≤◌}
 use native.Mathlib.Omega.{arith}
-use Rattle.survey.specs.Lowering.{Lowered}
 use Rattle.survey.proofs.Rows.{lowered_none, lowered_more}
 use Rattle.survey.proofs.hops.lower_row.Goals as goal
 

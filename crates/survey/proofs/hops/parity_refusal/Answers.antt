@@ -1,9 +1,7 @@
 -- Every link before i has ends with different hops from card 0; the first link with equal ones is refused, and none at the end. Assumes nothing.
 use mathlib.Core.Path.{refl}
-use Prim.Native.Nat.{ℕ, ◌-◌, ◌≤◌, ◌<◌}
 use native.Mathlib.Omega.{arith}
 use borrow.Author.Count.{below_more}
-use borrow.Author.Rules.{rules}
 use Rattle.rack.specs.WiringFile.{file_wiring}
 use Rattle.survey.proofs.Levels.{Uneven, uneven_none, unequal_uneven, equal_refusal}
 use Rattle.survey.proofs.Forms.{refused_is, formed_count}

@@ -2,7 +2,6 @@
 use mathlib.Core.Path.{refl}
 use native.Mathlib.Omega.{arith}
 use borrow.Author.Tests.{le-leb, lt-leb}
-use borrow.Author.Rules.{rules}
 use Rattle.survey.specs.Lowering.{row_bound}
 use Rattle.survey.proofs.hops.row_bound.Goals as goal
 

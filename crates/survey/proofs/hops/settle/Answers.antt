@@ -1,12 +1,5 @@
 -- The bounds stay above hops, and once a pass over every link takes nothing off they are hops; each turn that goes on lowers their sum. Assumes nothing.
-use mathlib.Core.Path.{◌≡◌}
-use Prim.Native.Nat.{◌+◌}
 use native.Mathlib.Omega.{arith}
-use borrow.Author.Rules.{rules}
-use Rattle.rack.specs.Lists.{sum}
-use Rattle.rack.specs.WiringFile.{file_wiring}
-use Rattle.survey.specs.Lowering.{Above}
-use Rattle.survey.specs.Tables.{HopsIn}
 use Rattle.survey.proofs.Passes.{passed_hops}
 use Rattle.survey.proofs.hops.settle.Goals as goal
 

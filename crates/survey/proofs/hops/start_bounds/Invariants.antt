@@ -1,9 +1,6 @@
 -- The rows below a hold the first bounds: one row more each turn, and 256 at the end. Assumes nothing.
-use mathlib.Core.Path.{◌≡◌}
 use Prim.Native.Nat.{◌-◌, ◌≤◌}
-use native.Mathlib.Omega.{arith}
 use Rattle.survey.specs.Lowering.{Started}
-use Rattle.survey.proofs.FirstBounds.{started_none}
 use Rattle.survey.proofs.hops.start_bounds.Given as goal
 
 abbrev pub invariant-loop-a : goal.invariant-loop-a

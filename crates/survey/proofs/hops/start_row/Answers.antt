@@ -1,7 +1,6 @@
 -- The row is filled, and then its place on the diagonal is made 0. Assumes nothing.
 use mathlib.Core.Path.{subst}
 use Prim.Native.Nat.{ℕ}
-use borrow.Author.Rules.{rules}
 use Rattle.survey.specs.Lowering.{RowFilled}
 use Rattle.survey.proofs.FirstBounds.{started_row}
 use Rattle.survey.proofs.hops.start_row.Goals as goal

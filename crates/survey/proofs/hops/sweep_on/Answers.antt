@@ -1,9 +1,5 @@
 -- The bounds are swept by the links of the order before j, and j rises to m. Assumes nothing.
-use Prim.Native.Nat.{◌-◌, ◌≤◌}
 use native.Mathlib.Omega.{arith}
-use borrow.Author.Rules.{rules}
-use Rattle.rack.specs.WiringFile.{file_wiring}
-use Rattle.survey.specs.Lowering.{Swept}
 use Rattle.survey.proofs.Passes.{swept_none, swept_more}
 use Rattle.survey.proofs.hops.sweep_on.Goals as goal
 

@@ -4,7 +4,6 @@ use Rattle.survey.proofs.Marks.{fault_first, fault_second, fault_same_card, faul
 use mathlib.Core.Path.{sym}
 use native.Mathlib.Omega.{arith}
 use lib.ListN.{length-set}
-use borrow.Author.Rules.{rules}
 use Rattle.survey.proofs.links.link_fault.Goals as goal
 
 pub returns-then-n-p : goal.returns-then-n-p

@@ -1,11 +1,8 @@
 -- `links::links_refusal` meets its contract. The loop's invariant: the marks are those of the first `i` links, and none of these is in fault. Assumes nothing.
 use Rattle.rack.proofs.Zeros.{zeros_long}
-use Rattle.survey.specs.Marks.{Marked}
-use Rattle.rack.specs.WiringFile.{file_wiring}
 use Rattle.survey.proofs.Forms.{links_are, refused_is}
-use Rattle.survey.proofs.Marks.{none_marked, ClearBefore, clear_none, clear_more, clear_refusal, clear_all}
+use Rattle.survey.proofs.Marks.{none_marked, clear_none, clear_more, clear_refusal, clear_all}
 use mathlib.Core.Path.{refl, sym, ◌∙◌}
-use Prim.Native.Nat.{◌≤◌, ◌-◌}
 use native.Mathlib.Omega.{arith}
 use Rattle.survey.proofs.links.links_refusal.Goals as goal
 

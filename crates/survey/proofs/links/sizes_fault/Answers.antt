@@ -1,9 +1,8 @@
--- `links::sizes_fault` meets its contract: each return stands where the tests before it passed, and these are the tests of `sizes-fault` in their order. Assumes nothing.
+-- `links::sizes_fault` meets its contract: each return stands where the tests before it passed, and these are the tests of `sizes_fault` in their order. Assumes nothing.
 use Rattle.survey.proofs.Forms.{sizes_short, sizes_zero_cards, sizes_many_cards, sizes_many_links, sizes_other_length}
 use Rattle.rack.proofs.WiringFile.{sized_clear}
 use mathlib.Core.Path.{sym}
 use native.Mathlib.Omega.{arith}
-use borrow.Author.Rules.{rules}
 use Rattle.survey.proofs.links.sizes_fault.Goals as goal
 
 pub returns-then-file-lt4 : goal.returns-then-file-lt4

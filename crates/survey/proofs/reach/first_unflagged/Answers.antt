@@ -3,9 +3,6 @@ use Rattle.survey.proofs.Forms.{refused_is}
 use Rattle.survey.proofs.Flags.{unflagged_here, unflagged_none}
 use Rattle.rack.proofs.Logic.{by_lt}
 use mathlib.Core.Path.{◌≡◌, refl}
-use mathlib.Core.Logic.{◌≢◌}
-use lib.ListN.{get_or}
-use Prim.Native.Nat.{ℕ, ◌<◌, ◌≤◌, ◌-◌}
 use native.Mathlib.Omega.{arith}
 use Rattle.survey.proofs.reach.first_unflagged.Goals as goal
 

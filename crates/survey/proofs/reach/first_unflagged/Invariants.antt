@@ -1,12 +1,7 @@
 -- `reach::first_unflagged` meets its contract. The loop's invariant: every card before `c` is flagged. Assumes nothing.
-use Rattle.survey.proofs.Forms.{refused_is}
-use Rattle.survey.proofs.Flags.{unflagged_here, unflagged_none}
-use Rattle.rack.proofs.Logic.{by_lt}
-use mathlib.Core.Path.{◌≡◌, refl}
 use mathlib.Core.Logic.{◌≢◌}
 use lib.ListN.{get_or}
 use Prim.Native.Nat.{ℕ, ◌<◌, ◌≤◌, ◌-◌}
-use native.Mathlib.Omega.{arith}
 use Rattle.survey.proofs.reach.first_unflagged.Given as goal
 
 abbrev pub invariant-loop-c : goal.invariant-loop-c

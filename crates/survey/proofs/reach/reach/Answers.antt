@@ -4,10 +4,7 @@ use Rattle.rack.specs.Limits.{lent_hops}
 use Rattle.rack.proofs.Zeros.{zeros_long}
 use Rattle.survey.proofs.Forms.{cards_are}
 use Rattle.survey.proofs.Flags.{first_flag, few_flags, spread_reached}
-use Rattle.survey.specs.Flags.{flags as flag-count, Flagged, Reached}
-use Rattle.rack.specs.WiringFile.{file_wiring}
-use mathlib.Core.Path.{◌≡◌, sym, ◌∙◌}
-use Prim.Native.Nat.{◌+◌, ◌-◌}
+use mathlib.Core.Path.{sym, ◌∙◌}
 use native.Mathlib.Omega.{arith}
 use Rattle.survey.proofs.reach.reach.Goals as goal
 

@@ -1,14 +1,9 @@
 -- `reach::reach` meets its contract. The loop's invariant: every flagged card can be reached, and once a pass moved none, all that can be reached are flagged.
 -- A pass adds a flag, of which there are at most 256, or ends the loop. Assumes nothing.
-use Rattle.rack.specs.Limits.{lent_hops}
-use Rattle.rack.proofs.Zeros.{zeros_long}
-use Rattle.survey.proofs.Forms.{cards_are}
-use Rattle.survey.proofs.Flags.{first_flag, few_flags, spread_reached}
 use Rattle.survey.specs.Flags.{flags as flag-count, Flagged, Reached}
 use Rattle.rack.specs.WiringFile.{file_wiring}
-use mathlib.Core.Path.{◌≡◌, sym, ◌∙◌}
+use mathlib.Core.Path.{◌≡◌}
 use Prim.Native.Nat.{◌+◌, ◌-◌}
-use native.Mathlib.Omega.{arith}
 use Rattle.survey.proofs.reach.reach.Given as goal
 
 abbrev pub invariant-loop-moved : goal.invariant-loop-moved

@@ -1,6 +1,5 @@
 -- `reach::reach_refusal` meets its contract: the flags are those of the cards that can be reached, and the lowest card without one is said. Assumes nothing.
 use Rattle.survey.proofs.Forms.{cards_are}
-use borrow.Author.Rules.{rules}
 use Rattle.survey.proofs.reach.reach_refusal.Goals as goal
 
 pub returns : goal.returns

@@ -1,7 +1,6 @@
 -- `reach::spread_link` meets its contract: a card that gets a flag is linked to a flagged one, so it can be reached. Assumes nothing.
 use Rattle.survey.proofs.Flags.{link_still, link_first, link_second}
 use native.Mathlib.Omega.{arith}
-use borrow.Author.Rules.{rules}
 use Rattle.survey.proofs.reach.spread_link.Goals as goal
 
 pub returns-then-flags-p : goal.returns-then-flags-p

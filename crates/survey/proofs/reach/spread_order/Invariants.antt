@@ -1,10 +1,7 @@
 -- `reach::spread_order` meets its contract. The loop's invariant: every flagged card can be reached. Assumes nothing.
 use Rattle.survey.specs.Flags.{Flagged}
 use Rattle.rack.specs.WiringFile.{file_wiring}
-use mathlib.Core.Path.{sym, ◌∙◌}
 use Prim.Native.Nat.{◌≤◌, ◌-◌}
-use native.Mathlib.Omega.{arith}
-use borrow.Author.Rules.{rules}
 use Rattle.survey.proofs.reach.spread_order.Given as goal
 
 abbrev pub invariant-loop-j : goal.invariant-loop-j

@@ -1,10 +1,7 @@
 -- `reach::spread_pass` meets its contract. The loop's invariant: the flags were spread over the first `i` links, and `moved` of them are new. Assumes nothing.
-use Rattle.survey.proofs.Flags.{none_spread, then_spread, few_flags}
 use Rattle.survey.specs.Flags.{Spread}
 use Rattle.rack.specs.WiringFile.{file_wiring}
-use mathlib.Core.Path.{◌≡◌, sym, ◌∙◌}
 use Prim.Native.Nat.{◌≤◌, ◌-◌}
-use native.Mathlib.Omega.{arith}
 use Rattle.survey.proofs.reach.spread_pass.Given as goal
 
 abbrev pub invariant-loop-i : goal.invariant-loop-i
