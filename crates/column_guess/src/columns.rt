@@ -24,7 +24,7 @@ pub fn number_labels(labels: &[u8; MOST_LINKS], m: usize, columns: &mut [u8; MOS
     while i < m {
         let at = label_place(labels[i]);
         let old = columns[at];
-        k = next(k, is_numbered(at, old), MOST_COLUMNS);
+        k = next(k, is_numbered(at, old) as u8, MOST_COLUMNS);
         columns[at] = label_or(old, k as u8);
         i += 1;
     }

@@ -41,7 +41,7 @@ fn meet_linked(
         let d = entry_card(list[k]);
         let level = levels[d];
         queue[length] = d as u8;
-        length = next(length, level != 0, MOST_CARDS);
+        length = next(length, (level != 0) as u8, MOST_CARDS);
         levels[d] = level_of(level, below);
         k += 1;
     }

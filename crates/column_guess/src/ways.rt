@@ -115,7 +115,7 @@ fn labels_up(
         }
         let x = labels[entry_link(ups[c])];
         found[count] = x;
-        count = next(count, has_label(sets, other, x), MOST_CARDS);
+        count = next(count, has_label(sets, other, x) as u8, MOST_CARDS);
         c = entry_card(ups[c]);
         steps += 1;
     }

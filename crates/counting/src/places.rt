@@ -18,7 +18,7 @@ fn byte_ones(ones: &[u8; 256], z: u8) -> u32
 }
 
 // The places in which two bytes differ.
-pub fn byte_hamming(ones: &[u8; 256], x: u8, y: u8) -> u32
+fn byte_hamming(ones: &[u8; 256], x: u8, y: u8) -> u32
     requires { Counts ones.now }
     ensures is { result ≡ hamming 8 (number_bit x) (number_bit y) }
     ensures few { result ≤ 8 }

@@ -10,12 +10,12 @@ ghost use Rattle.jolvente.specs.CCalls.{CAsked, CFound, CFrame, CFull, CReadSays
 ghost use Rattle.jolvente.specs.Records.{cards_in, counts_in, walked_in};
 
 use forwarder::walk::{LENT_MET, Tally, walk_counted};
+use planner::write_plan;
 use rack::bytes::number32_at;
 use rack::limits::LENT_PLAN;
 use reader::read::read_plan;
 use records::{LENT_MET_BYTES, LENT_RECORD, put_cards, put_record};
 use traffic::caller_fault;
-use planner::write_plan;
 
 mod records;
 

@@ -3,9 +3,8 @@ use crate::say::{bytes_sum, cards_sum, say, words_sum};
 use crossing::places::FirstColumn;
 use crossing::{step_frame, walk_frame};
 use forwarder::walk::{Tally, Walked};
-use planner::{Answer, plan_rack};
+use planner::{Answer, plan_rack, write_plan};
 use reader::read::{card_address, read_plan};
-use planner::write_plan;
 
 // Which text says an answer: 0 for no refusal, 1 for one, 2 for one with a link, 3 for one with a card.
 fn answer_text(number: u32) -> usize {

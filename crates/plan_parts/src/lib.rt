@@ -2,6 +2,5 @@
 // in proofs/.
 #![tactic(auto)]
 
-pub mod copy;
 pub mod links;
 pub mod rows;

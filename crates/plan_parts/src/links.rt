@@ -9,9 +9,9 @@ ghost use Rattle.reader.specs.Reading.{LaidOut};
 ghost use Rattle.pendant.specs.Pendant.{last_hangs};
 ghost use Rattle.plan_parts.specs.Parts.{LinksIn, first_ends, second_ends};
 
-use crate::copy::copy_part;
 use rack::bytes::{first_end, put_number, second_end};
 use reader::layout::Sizes;
+use reader::read::copy_part;
 
 // Whether link `i` of `m` is one of the card's.
 fn touches_card(plan: &[u8], m: usize, card: usize, i: usize) -> bool

@@ -5,9 +5,9 @@ ghost use Rattle.rack.specs.Buffers.{Appends};
 ghost use Rattle.reader.specs.Reading.{LaidOut};
 ghost use Rattle.plan_parts.specs.Parts.{row_byte, row_with_one};
 
-use crate::copy::copy_part;
 use rack::plan_file::{address_size, address_start};
 use reader::layout::Sizes;
+use reader::read::copy_part;
 
 // The lesser of two lengths.
 fn lesser(x: usize, y: usize) -> usize

@@ -34,7 +34,7 @@ fn put_ends(file: &[u8], count: usize, output: &mut [u8])
 }
 
 // Byte `t` of the words of card `c`.
-pub fn address_byte(words: &[u64], c: usize, t: usize) -> u8
+fn address_byte(words: &[u64], c: usize, t: usize) -> u8
     requires { (length words.now ≡ lent_words) × (c < most_cards) × (t < 32) }
     ensures { result ≡ word_byte words.now c t }
 {

@@ -78,19 +78,22 @@ module _ (w : Wiring) where
       ∙ address_byte (column_count w) (address w c) t ht)
 
   module _ (links_fit : link_count w < 65536) (columns_fit : column_count w < 65536) where
-    -- its bits are the addresses'
-    pub written_bit : (c j : ℕ) → c < w.cards → j < column_count w → plan_bit (plan_bytes w) c j ≡ address w c j
+    -- its bits are the addresses', in any byte of an address
+    pub written_byte_bit : (c j : ℕ) → c < w.cards → j / 8 < address_size (column_count w) → plan_bit (plan_bytes w) c j ≡ address w c j
     unfolding bit_from plan_bit
-    written_bit c j hc hj =
+    written_byte_bit c j hc hj =
         let e : 8 * (j / 8) + j % 8 ≡ j = omega arith in
         rw (
           written_links links_fit,
           written_columns columns_fit,
-          written_byte c (j / 8) hc (bit_inside (column_count w) j hj),
+          written_byte c (j / 8) hc hj,
           bits_value_number 8 (λ i. address w c (8 * (j / 8) + i)) (j % 8) (omega arith),
           e,
         )
         refl
+
+    pub written_bit : (c j : ℕ) → c < w.cards → j < column_count w → plan_bit (plan_bytes w) c j ≡ address w c j
+    written_bit c j hc hj = written_byte_bit c j hc (bit_inside (column_count w) j hj)
 
     -- and so they are with more bytes behind it
     module _ (rest : List ℕ) where

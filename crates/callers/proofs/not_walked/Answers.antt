@@ -1,6 +1,5 @@
 -- Zeros, no column, and the counts that it is given. Assumes nothing.
 use mathlib.Core.Path.{refl}
-use borrow.Author.Rules.{rules}
 use Rattle.callers.proofs.not_walked.Goals as goal
 
 pub returns : goal.returns

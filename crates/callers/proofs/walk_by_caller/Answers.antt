@@ -1,7 +1,6 @@
 -- 1 comes first, then 12 and 18; else the walk with the caller's counts, which go back into the record. Assumes nothing.
 use mathlib.Core.Path.{sym, ◌∙◌}
 use native.Mathlib.Omega.{arith}
-use borrow.Author.Rules.{rules}
 use Rattle.traffic.proofs.CallerRefusal.{answered_caller}
 use Rattle.callers.proofs.Refused.{no_room, no_caller}
 use Rattle.callers.proofs.Answers.{refused_is, walk_answered}

@@ -1,7 +1,6 @@
 -- 1, 12 and 19 come first; else the walk by the numbers in the frame's bytes. Assumes nothing.
 use mathlib.Core.Path.{sym, ◌∙◌}
 use native.Mathlib.Omega.{arith}
-use borrow.Author.Rules.{rules}
 use Rattle.callers.proofs.Refused.{lent_no_room, lent_no_plan, lent_short}
 use Rattle.callers.proofs.Answers.{refused_is, lent_answered}
 use Rattle.callers.proofs.Delivery.{with_lent_delivery}

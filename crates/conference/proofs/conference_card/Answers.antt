@@ -1,5 +1,4 @@
 -- The number that reading answers comes before 14, and a plan that was read is measured. Assumes nothing.
-use borrow.Author.Rules.{rules}
 use Rattle.reader.proofs.AddressPart.{read_laid_out}
 use Rattle.conference.proofs.Answers.{read_refusal}
 use Rattle.conference.proofs.conference_card.Goals as goal

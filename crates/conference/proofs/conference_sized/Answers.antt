@@ -1,6 +1,5 @@
 -- A refusal is handed on with zeros, and else the answer is what the search gives. Assumes nothing.
 use native.Mathlib.Omega.{arith}
-use borrow.Author.Rules.{rules}
 use Rattle.conference.proofs.Answers.{laid_out, measured, cards_inside, says_refused, says_none, says_found}
 use Rattle.conference.proofs.Promises.{with_promise}
 use Rattle.conference.proofs.conference_sized.Goals as goal

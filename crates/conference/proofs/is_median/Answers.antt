@@ -1,7 +1,6 @@
 -- The three counts are hops, so their sums are the three tests. Assumes nothing.
 use native.Mathlib.Omega.{arith}
 use mathlib.Core.Path.{refl}
-use borrow.Author.Rules.{rules}
 use Rattle.conference.proofs.Searching.{places_few, not_first_second, not_first_third, if_second_third}
 use Rattle.conference.proofs.is_median.Goals as goal
 

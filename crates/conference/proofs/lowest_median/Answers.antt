@@ -2,12 +2,10 @@
 use native.Mathlib.Omega.{arith}
 use mathlib.Core.Path.{◌≡◌, sym, ◌∙◌}
 use mathlib.Core.Bool.{false}
-use Prim.Native.Nat.{◌-◌, ◌≤◌}
 use borrow.Author.Count.{below_more}
 use Rattle.rack.specs.PlanFile.{plan_wiring}
 use Rattle.conference.specs.Conference.{median}
-use Rattle.conference.specs.Callers.{CallersAre}
-use Rattle.conference.proofs.Searching.{NoneBefore, callers_are, search_ended}
+use Rattle.conference.proofs.Searching.{callers_are, search_ended}
 use Rattle.conference.proofs.lowest_median.Goals as goal
 
 pub plan_hamming-requires : goal.plan_hamming-requires

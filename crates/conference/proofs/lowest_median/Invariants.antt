@@ -1,13 +1,7 @@
 -- The loop's invariant: no card passed is a median. So the first that is one is the lowest, and where none is left there is none. Assumes nothing.
-use native.Mathlib.Omega.{arith}
-use mathlib.Core.Path.{◌≡◌, sym, ◌∙◌}
-use mathlib.Core.Bool.{false}
 use Prim.Native.Nat.{◌-◌, ◌≤◌}
-use borrow.Author.Count.{below_more}
-use Rattle.rack.specs.PlanFile.{plan_wiring}
-use Rattle.conference.specs.Conference.{median}
 use Rattle.conference.specs.Callers.{CallersAre}
-use Rattle.conference.proofs.Searching.{NoneBefore, callers_are, search_ended}
+use Rattle.conference.proofs.Searching.{NoneBefore}
 use Rattle.conference.proofs.lowest_median.Given as goal
 
 abbrev pub invariant-loop-x : goal.invariant-loop-x

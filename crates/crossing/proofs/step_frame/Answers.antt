@@ -1,7 +1,6 @@
 -- A step over a link has both its cards in the plan, and the column between them. Assumes nothing.
 use native.Mathlib.Omega.{arith}
 use Rattle.crossing.proofs.Answers.{step_between_cards, step_crosses_none, step_crosses_column}
-use borrow.Author.Rules.{rules}
 use Rattle.crossing.proofs.step_frame.Goals as goal
 
 pub returns-then-stepped-ne2 : goal.returns-then-stepped-ne2

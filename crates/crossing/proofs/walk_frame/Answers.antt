@@ -2,7 +2,6 @@
 -- by `walk_counted`. Assumes nothing.
 use native.Mathlib.Omega.{arith}
 use Rattle.crossing.proofs.Answers.{second_met, walk_between_cards, walk_crosses_none, walk_crosses_column}
-use borrow.Author.Rules.{rules}
 use Rattle.crossing.proofs.walk_frame.Goals as goal
 
 pub returns-then-walked-eq0 : goal.returns-then-walked-eq0

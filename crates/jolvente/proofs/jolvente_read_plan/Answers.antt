@@ -1,6 +1,5 @@
 -- 1 and the reader's refusals come before the record is written; else it has the plan's sizes. The promise follows. Assumes nothing.
 use native.Mathlib.Omega.{arith}
-use borrow.Author.Rules.{rules}
 use Rattle.jolvente.proofs.Answers.{no_room, read_refused, sizes_said}
 use Rattle.jolvente.proofs.PlanPromise.{with_promise}
 use Rattle.jolvente.proofs.jolvente_read_plan.Goals as goal

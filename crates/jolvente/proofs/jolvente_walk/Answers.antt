@@ -3,7 +3,6 @@ use mathlib.Core.Path.{refl}
 use native.Mathlib.Omega.{arith}
 use Rattle.jolvente.proofs.WalkArrival.{with_c_arrival}
 use Rattle.jolvente.proofs.WalkAnswer.{no_met_room, no_walk_record, caller_refused, walk_refused, walk_said}
-use borrow.Author.Rules.{rules}
 use Rattle.jolvente.proofs.jolvente_walk.Goals as goal
 
 pub returns-then-met-ne-LENT_MET_BYTES : goal.returns-then-met-ne-LENT_MET_BYTES

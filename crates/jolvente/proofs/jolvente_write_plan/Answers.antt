@@ -1,6 +1,5 @@
 -- 1 comes before anything is written; else the plan and the record are written, or made zero. Demands 2 and 3 follow. Assumes nothing.
 use native.Mathlib.Omega.{arith}
-use borrow.Author.Rules.{rules}
 use Rattle.jolvente.proofs.Answers.{no_plan_room, no_record_room, plan_said}
 use Rattle.jolvente.proofs.PlanPromise.{with_found}
 use Rattle.jolvente.proofs.Returned.{returned_fits}

@@ -2,7 +2,6 @@
 use mathlib.Core.Path.{◌∙◌}
 use native.Mathlib.Omega.{arith}
 use Rattle.listing_text.proofs.Listings.{listing_says_one, listed_inside, listing_says_text}
-use borrow.Author.Rules.{rules}
 use Rattle.listing_text.proofs.listing_text.Goals as goal
 
 pub returns-then-text-ne-LENT_TEXT : goal.returns-then-text-ne-LENT_TEXT

@@ -5,7 +5,6 @@ use lib.ListN.{length}
 use Rattle.text.proofs.Putting.{puts_as}
 use Rattle.listing_text.proofs.Fits.{listing_fits}
 use Rattle.listing_text.proofs.Listings.{listing_refused, planned_sizes, planned_columns, listing_rack}
-use borrow.Author.Rules.{rules}
 use Rattle.listing_text.proofs.put_listing.Goals as goal
 
 pub put_refused-requires : goal.put_refused-requires

@@ -2,7 +2,6 @@
 use mathlib.Core.Path.{sym}
 use mathlib.Core.Logic.{inl, inr, ⊎_elim}
 use native.Mathlib.Omega.{arith}
-use borrow.Author.Rules.{rules}
 use Rattle.plan_changer.proofs.Refused.{refused_before, card_outside, full_refused, card_fits}
 use Rattle.plan_changer.proofs.add_refusal.Goals as goal
 

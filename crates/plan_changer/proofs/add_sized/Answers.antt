@@ -4,7 +4,6 @@ use mathlib.Core.Logic.{inl, inr, ◌≢◌}
 use Prim.Native.Nat.{ℕ}
 use native.Mathlib.Omega.{arith}
 use lib.ListN.{replicate}
-use borrow.Author.Rules.{rules}
 use Rattle.rack.specs.Limits.{most_cards, most_links}
 use Rattle.plan_changer.proofs.Refused.{clear_fits}
 use Rattle.plan_changer.proofs.Answers.{plan_refused, plan_left}

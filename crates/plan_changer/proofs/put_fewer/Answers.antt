@@ -2,7 +2,6 @@
 use mathlib.Core.Path.{refl}
 use Prim.Native.Nat.{◌-◌}
 use native.Mathlib.Omega.{arith}
-use borrow.Author.Rules.{rules}
 use Rattle.plan_writer.proofs.WrittenPlan.{addresses_room, zeros_long}
 use Rattle.plan_changer.proofs.ChangedBytes.{links_in, fewer_written, fewer_length}
 use Rattle.plan_changer.proofs.put_fewer.Goals as goal

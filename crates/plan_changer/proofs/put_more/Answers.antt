@@ -1,6 +1,5 @@
 -- Sizes, ends, the old addresses and the new one are appended in this order, and fit. Assumes nothing.
 use native.Mathlib.Omega.{arith}
-use borrow.Author.Rules.{rules}
 use Rattle.plan_writer.proofs.WrittenPlan.{zeros_long}
 use Rattle.plan_changer.proofs.ChangedBytes.{links_in, more_room, size_more, more_written, more_length}
 use Rattle.plan_changer.proofs.put_more.Goals as goal

@@ -3,8 +3,6 @@ use mathlib.Core.Path.{refl, sym, ap, ◌∙◌}
 use Prim.Native.Nat.{ℕ}
 use native.Mathlib.Omega.{arith}
 use lib.ListN.{replicate}
-use borrow.Author.Tests.{not-true, not-false}
-use borrow.Author.Rules.{rules}
 use Rattle.plan_parts.proofs.Searching.{hangs_linked}
 use Rattle.plan_changer.proofs.Refused.{off_refused_before, not_hanging_refused, hanging_clear}
 use Rattle.plan_changer.proofs.Answers.{plan_refused, plan_left}

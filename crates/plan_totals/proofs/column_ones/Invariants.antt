@@ -1,15 +1,9 @@
 -- The loop's invariant: the ones counted are those of the first c cards. Assumes nothing.
 -- one card more: its byte is read where the code counts
-use mathlib.Core.Path.{◌≡◌, sym, ap, ◌∙◌}
-use mathlib.Core.List.{List}
-use Prim.Native.Nat.{ℕ, ◌+◌, ◌*◌, ◌-◌, ◌/◌, ◌%◌, ◌^◌, ◌≤◌, ◌<◌}
-use native.Mathlib.Nat.{div-le_self}
-use native.Mathlib.Omega.{arith}
-use lib.ListN.{length, get_or}
-use borrow.Author.Rules.{rules}
+use mathlib.Core.Path.{◌≡◌}
+use Prim.Native.Nat.{◌-◌, ◌≤◌}
 use Rattle.rack.specs.PlanFile.{plan_bit}
 use Rattle.totals.specs.Totals.{ones_of}
-use Rattle.plan_totals.proofs.Summing.{ones_none, ones_more, ones_few}
 use Rattle.plan_totals.proofs.column_ones.Given as goal
 
 abbrev pub invariant-loop-c : goal.invariant-loop-c

@@ -1,8 +1,7 @@
 -- The loop's invariant: the sum is that of the hops to the first c cards. Assumes nothing.
 use mathlib.Core.Path.{◌≡◌, sym, ap, ◌∙◌}
-use Prim.Native.Nat.{ℕ, ◌+◌, ◌*◌, ◌-◌, ◌≤◌}
+use Prim.Native.Nat.{ℕ, ◌+◌, ◌*◌, ◌≤◌}
 use native.Mathlib.Omega.{arith}
-use borrow.Author.Rules.{rules}
 use Rattle.rack.specs.Limits.{most_cards}
 use Rattle.rack.specs.PlanFile.{plan_wiring}
 use Rattle.totals.specs.Totals.{hops_to}

@@ -1,13 +1,9 @@
 -- The loop's invariant: the sum is that of the hops to the first c cards. Assumes nothing.
 -- one card more
-use mathlib.Core.Path.{◌≡◌, sym, ap, ◌∙◌}
-use Prim.Native.Nat.{ℕ, ◌+◌, ◌*◌, ◌-◌, ◌≤◌}
-use native.Mathlib.Omega.{arith}
-use borrow.Author.Rules.{rules}
-use Rattle.rack.specs.Limits.{most_cards}
+use mathlib.Core.Path.{◌≡◌}
+use Prim.Native.Nat.{◌-◌, ◌≤◌}
 use Rattle.rack.specs.PlanFile.{plan_wiring}
 use Rattle.totals.specs.Totals.{hops_to}
-use Rattle.plan_totals.proofs.Summing.{hops_none, hops_more, hops_few}
 use Rattle.plan_totals.proofs.hops_from.Given as goal
 
 abbrev pub invariant-loop-c : goal.invariant-loop-c

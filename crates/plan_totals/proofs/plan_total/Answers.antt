@@ -1,6 +1,5 @@
 -- Over an embedding the hops are summed column by column. Assumes nothing.
 use mathlib.Core.Path.{◌∙◌}
-use borrow.Author.Rules.{rules}
 use Rattle.plan_totals.proofs.Summing.{products_total}
 use Rattle.plan_totals.proofs.plan_total.Goals as goal
 

@@ -1,14 +1,9 @@
 -- The loop's invariant: the sum is that of the first j columns' products. Assumes nothing.
 -- one column more
-use mathlib.Core.Path.{◌≡◌, sym, ap, ◌∙◌}
-use mathlib.Core.Bool.{Bool}
-use Prim.Native.Nat.{ℕ, ◌+◌, ◌*◌, ◌-◌, ◌≤◌}
-use native.Mathlib.Omega.{arith}
-use borrow.Author.Rules.{rules}
-use Rattle.rack.specs.Limits.{most_cards}
+use mathlib.Core.Path.{◌≡◌}
+use Prim.Native.Nat.{◌-◌, ◌≤◌}
 use Rattle.rack.specs.PlanFile.{plan_bit}
 use Rattle.totals.specs.Totals.{bit_products}
-use Rattle.plan_totals.proofs.Summing.{ones_few, products_none, products_more, products_few}
 use Rattle.plan_totals.proofs.products.Given as goal
 
 abbrev pub invariant-loop-j : goal.invariant-loop-j

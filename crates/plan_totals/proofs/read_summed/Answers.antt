@@ -1,5 +1,4 @@
 -- A refusal is handed on with zeros, and else the sizes with the sum. Assumes nothing.
-use borrow.Author.Rules.{rules}
 use Rattle.reader.proofs.AddressPart.{read_laid_out}
 use Rattle.plan_totals.proofs.Answers.{summed_refused, summed_answered, summed_measured}
 use Rattle.plan_totals.proofs.read_summed.Goals as goal

@@ -1,6 +1,5 @@
 -- A refusal is handed on, another sum is 13, and else the sizes stand. Assumes nothing.
 use native.Mathlib.Omega.{arith}
-use borrow.Author.Rules.{rules}
 use Rattle.reader.proofs.AddressPart.{read_laid_out}
 use Rattle.plan_totals.proofs.Answers.{with_total_refused, with_other_total, with_that_total, with_total_measured}
 use Rattle.plan_totals.proofs.read_with_total.Goals as goal

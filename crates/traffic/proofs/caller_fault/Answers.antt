@@ -1,7 +1,6 @@
 -- 12 comes first, then the caller's number. Assumes nothing.
 use mathlib.Core.Path.{sym, ◌∙◌}
 use native.Mathlib.Omega.{arith}
-use borrow.Author.Rules.{rules}
 use Rattle.traffic.proofs.CallerRefusal.{no_plan, no_caller, caller_passes}
 use Rattle.traffic.proofs.caller_fault.Goals as goal
 

@@ -1,6 +1,5 @@
 -- Two elements read. Assumes nothing.
 use mathlib.Core.Path.{refl}
-use borrow.Author.Rules.{rules}
 use Rattle.traffic.specs.Traffic.{tally_of}
 use Rattle.traffic.proofs.tally_of.Goals as goal
 

@@ -1,6 +1,5 @@
 -- Two elements put anew. Assumes nothing.
 use mathlib.Core.Path.{refl}
-use borrow.Author.Rules.{rules}
 use Rattle.traffic.specs.Traffic.{with_tally}
 use Rattle.traffic.proofs.with_tally.Goals as goal
 

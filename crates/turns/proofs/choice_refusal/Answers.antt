@@ -2,7 +2,6 @@
 use mathlib.Core.Path.{sym}
 use mathlib.Core.Logic.{inl, inr}
 use native.Mathlib.Omega.{arith}
-use borrow.Author.Rules.{rules}
 use Rattle.turns.proofs.Turning.{short_refused, over_refused, Fit, full_refused, none_refused, TurnsAre, turns_first, turns_second}
 use Rattle.turns.proofs.choice_refusal.Goals as goal
 use Rattle.turns.proofs.choice_refusal.Goals.{After-turns_of}

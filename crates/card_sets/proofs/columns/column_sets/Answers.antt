@@ -1,12 +1,11 @@
 -- The first v words are written. Assumes nothing.
 use mathlib.Core.Path.{◌≡◌, sym, ◌∙◌}
-use Prim.Native.Nat.{◌*◌, ◌-◌, ◌≤◌}
+use Prim.Native.Nat.{◌*◌}
 use native.Mathlib.Omega.{arith}
-use borrow.Author.Rules.{rules}
 use Rattle.rack.specs.Limits.{lent_words}
 use Rattle.rack.specs.PlanFile.{plan_bit}
 use Rattle.rack.proofs.Zeros.{zeros_long}
-use Rattle.card_sets.proofs.EightColumns.{ColumnsWritten, columns_none, next_zero, columns_more, columns_all}
+use Rattle.card_sets.proofs.EightColumns.{columns_none, next_zero, columns_more, columns_all}
 use Rattle.card_sets.proofs.columns.column_sets.Goals as goal
 
 pub address_size-words-requires : goal.address_size-words-requires

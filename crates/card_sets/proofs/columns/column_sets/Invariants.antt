@@ -1,12 +1,7 @@
 -- The first v words are written. Assumes nothing.
-use mathlib.Core.Path.{◌≡◌, sym, ◌∙◌}
-use Prim.Native.Nat.{◌*◌, ◌-◌, ◌≤◌}
-use native.Mathlib.Omega.{arith}
-use borrow.Author.Rules.{rules}
-use Rattle.rack.specs.Limits.{lent_words}
+use Prim.Native.Nat.{◌-◌, ◌≤◌}
 use Rattle.rack.specs.PlanFile.{plan_bit}
-use Rattle.rack.proofs.Zeros.{zeros_long}
-use Rattle.card_sets.proofs.EightColumns.{ColumnsWritten, columns_none, next_zero, columns_more, columns_all}
+use Rattle.card_sets.proofs.EightColumns.{ColumnsWritten}
 use Rattle.card_sets.proofs.columns.column_sets.Given as goal
 
 abbrev pub invariant-loop-v : goal.invariant-loop-v

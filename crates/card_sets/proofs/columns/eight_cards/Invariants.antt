@@ -1,9 +1,7 @@
 -- The word holds the cards from i on. Assumes nothing.
-use mathlib.Core.Path.{◌≡◌, refl, ◌∙◌}
-use Prim.Native.Nat.{◌+◌, ◌*◌, ◌-◌, ◌≤◌, ◌<◌}
-use native.Mathlib.Omega.{arith}
-use lib.ListN.{length, get_or}
-use Rattle.card_sets.proofs.WordBytes.{cards_value, cards_fit, cards_none, cards_all, card_next}
+use mathlib.Core.Path.{◌≡◌}
+use Prim.Native.Nat.{◌-◌, ◌≤◌}
+use Rattle.card_sets.proofs.WordBytes.{cards_value}
 use Rattle.card_sets.proofs.columns.eight_cards.Given as goal
 
 abbrev pub invariant-loop-i : goal.invariant-loop-i

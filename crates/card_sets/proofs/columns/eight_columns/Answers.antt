@@ -5,7 +5,7 @@ use native.Mathlib.Omega.{arith}
 use Rattle.rack.specs.Limits.{most_columns}
 use Rattle.rack.specs.PlanFile.{plan_bit, address_size}
 use Rattle.rack.proofs.PlanFile.{address_size_is}
-use Rattle.card_sets.proofs.EightColumns.{plan_fits, card_inside, column_byte, EightFrom, eight_none, eight_room, eight_next, eight_all}
+use Rattle.card_sets.proofs.EightColumns.{plan_fits, card_inside, column_byte, eight_none, eight_room, eight_next, eight_all}
 use Rattle.card_sets.proofs.columns.eight_columns.Goals as goal
 
 -- the place of the words

@@ -1,9 +1,8 @@
 -- The first j bytes are put. Assumes nothing.
 use mathlib.Core.Path.{◌≡◌}
-use Prim.Native.Nat.{◌+◌, ◌*◌, ◌-◌, ◌/◌, ◌^◌, ◌≤◌, ◌<◌}
+use Prim.Native.Nat.{◌+◌, ◌*◌, ◌^◌, ◌<◌}
 use native.Mathlib.Omega.{arith}
 use lib.ListN.{get_or}
-use Rattle.card_sets.specs.WordBytes.{BytesPut}
 use Rattle.card_sets.proofs.PutBytes.{none_put, more_put, next_old, rest_none, rest_next}
 use Rattle.card_sets.proofs.columns.put_bytes.Goals as goal
 use Rattle.card_sets.proofs.columns.put_bytes.Goals.{After-slice_known-1}

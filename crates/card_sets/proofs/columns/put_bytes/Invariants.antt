@@ -1,10 +1,7 @@
 -- The first j bytes are put. Assumes nothing.
 use mathlib.Core.Path.{◌≡◌}
-use Prim.Native.Nat.{◌+◌, ◌*◌, ◌-◌, ◌/◌, ◌^◌, ◌≤◌, ◌<◌}
-use native.Mathlib.Omega.{arith}
-use lib.ListN.{get_or}
+use Prim.Native.Nat.{◌-◌, ◌/◌, ◌^◌, ◌≤◌}
 use Rattle.card_sets.specs.WordBytes.{BytesPut}
-use Rattle.card_sets.proofs.PutBytes.{none_put, more_put, next_old, rest_none, rest_next}
 use Rattle.card_sets.proofs.columns.put_bytes.Given as goal
 
 abbrev pub invariant-loop-j : goal.invariant-loop-j

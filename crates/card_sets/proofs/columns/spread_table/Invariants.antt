@@ -1,12 +1,8 @@
 -- The entries before x are the bytes spread. Assumes nothing.
-use mathlib.Core.Path.{◌≡◌, refl, ap, ◌∙◌}
-use Prim.Native.Nat.{ℕ, ◌+◌, ◌*◌, ◌-◌, ◌/◌, ◌%◌, ◌≤◌, ◌<◌}
-use native.Mathlib.Omega.{arith}
-use lib.ListN.{length, get_or, length-set}
-use lib.Seq.{get_or-set_same, get_or-set_other}
-use Rattle.rack.proofs.Logic.{by_eq}
+use mathlib.Core.Path.{◌≡◌}
+use Prim.Native.Nat.{ℕ, ◌-◌, ◌≤◌, ◌<◌}
+use lib.ListN.{length, get_or}
 use Rattle.card_sets.specs.WordBytes.{spread}
-use Rattle.card_sets.proofs.WordBytes.{spread_none, spread_half, spread_fits}
 use Rattle.card_sets.proofs.columns.spread_table.Given as goal
 
 abbrev pub invariant-loop-x : goal.invariant-loop-x

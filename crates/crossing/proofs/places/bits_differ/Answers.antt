@@ -3,7 +3,6 @@ use native.Mathlib.Omega.{arith}
 use Prim.Native.Nat.{◌/◌, ◌%◌, ◌^◌}
 use Rattle.rack.specs.Bits.{number_bit}
 use Rattle.crossing.proofs.Searching.{remainders_differ}
-use borrow.Author.Rules.{rules}
 use Rattle.crossing.proofs.places.bits_differ.Goals as goal
 
 pub returns : goal.returns

@@ -1,5 +1,4 @@
 -- The size and the start are counted by the leaves of `rack`. Assumes nothing.
-use borrow.Author.Rules.{rules}
 use Rattle.crossing.proofs.places.card_start.Goals as goal
 
 pub returns : goal.returns

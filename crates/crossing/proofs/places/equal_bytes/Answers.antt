@@ -1,7 +1,7 @@
 -- The loop's invariant: the bytes passed are equal. Assumes nothing.
 use native.Mathlib.Omega.{arith}
 use mathlib.Core.Path.{◌≡◌}
-use Prim.Native.Nat.{ℕ, ◌+◌, ◌-◌, ◌≤◌, ◌<◌}
+use Prim.Native.Nat.{◌+◌}
 use lib.ListN.{get_or}
 use borrow.Author.Count.{below_more}
 use Rattle.crossing.proofs.Searching.{bytes_ended}

@@ -1,10 +1,7 @@
 -- The loop's invariant: the bytes passed are equal. Assumes nothing.
-use native.Mathlib.Omega.{arith}
 use mathlib.Core.Path.{◌≡◌}
 use Prim.Native.Nat.{ℕ, ◌+◌, ◌-◌, ◌≤◌, ◌<◌}
 use lib.ListN.{get_or}
-use borrow.Author.Count.{below_more}
-use Rattle.crossing.proofs.Searching.{bytes_ended}
 use Rattle.crossing.proofs.places.equal_bytes.Given as goal
 
 abbrev pub invariant-loop-t : goal.invariant-loop-t

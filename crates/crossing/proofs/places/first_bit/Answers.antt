@@ -1,12 +1,12 @@
 -- The loop's invariant: the bits below j agree. It begins behind the equal bytes. Assumes nothing.
 use native.Mathlib.Omega.{arith}
 use mathlib.Core.Path.{◌≡◌, sym, ◌∙◌}
-use Prim.Native.Nat.{◌-◌, ◌/◌, ◌≤◌}
+use Prim.Native.Nat.{◌/◌, ◌≤◌}
 use borrow.Author.Count.{below_more}
 use Rattle.rack.proofs.Logic.{differ_false}
 use Rattle.rack.specs.PlanFile.{address_size, bit_from}
 use Rattle.crossing.proofs.Differing.{differing_ended}
-use Rattle.crossing.proofs.Searching.{AgreeBefore, bytes_within, bytes_agree}
+use Rattle.crossing.proofs.Searching.{bytes_within, bytes_agree}
 use Rattle.crossing.proofs.places.first_bit.Goals as goal
 use Rattle.crossing.proofs.places.first_bit.Goals.{After-equal_bytes-j}
 

@@ -5,7 +5,6 @@ use Rattle.reader.proofs.Addresses.{address_counted}
 use Rattle.crossing.specs.Differing.{plan_differing}
 use Rattle.crossing.proofs.Searching.{differing_from}
 use Rattle.crossing.proofs.Answers.{few_differing, equal_addresses, unlike_addresses}
-use borrow.Author.Rules.{rules}
 use Rattle.crossing.proofs.places.first_column.Goals as goal
 use Rattle.crossing.proofs.places.first_column.Goals.{After-first_bit-j}
 

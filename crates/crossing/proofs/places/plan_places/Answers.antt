@@ -1,5 +1,4 @@
 -- The differing places and the lowest column are those of the same two addresses. Assumes nothing.
-use borrow.Author.Rules.{rules}
 use Rattle.crossing.proofs.places.plan_places.Goals as goal
 
 pub returns : goal.returns

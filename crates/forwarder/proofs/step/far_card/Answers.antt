@@ -4,7 +4,6 @@ use native.Mathlib.Omega.{arith}
 use Rattle.rack.specs.Wiring.{link_at}
 use Rattle.rack.specs.PlanFile.{plan_wiring}
 use Rattle.forwarder.proofs.Searching.{far_first_out, far_second_out, far_second, far_first, far_none}
-use borrow.Author.Rules.{rules}
 use Rattle.forwarder.proofs.step.far_card.Goals as goal
 
 pub returns-then-n-q : goal.returns-then-n-q

@@ -4,7 +4,6 @@ use mathlib.Core.Logic.{inl, inr}
 use Rattle.forwarder.proofs.Frames.{sizes_no_plan, sizes_no_card, sizes_both_cards}
 use mathlib.Core.Path.{ap}
 use Rattle.reader.specs.declared.layout.Sizes.{Sizes}
-use borrow.Author.Rules.{rules}
 use Rattle.forwarder.proofs.step.frame_sizes.Goals as goal
 
 pub returns-then-sizes-ne0 : goal.returns-then-sizes-ne0

@@ -2,7 +2,6 @@
 use native.Mathlib.Omega.{arith}
 use mathlib.Core.Path.{refl}
 use borrow.Author.Tests.{lt-ltb, le-ltb}
-use borrow.Author.Rules.{rules}
 use Rattle.rack.specs.PlanFile.{plan_hamming}
 use Rattle.forwarder.proofs.Searching.{one_mark_more}
 use Rattle.forwarder.proofs.step.is_nearer.Goals as goal

@@ -1,10 +1,7 @@
 -- The loop's invariant: no link passed leads nearer. So the first that does is the step's, and where none is left the frame is stuck. Assumes nothing.
 use native.Mathlib.Omega.{arith}
-use borrow.Author.Rules.{rules}
 use mathlib.Core.Path.{sym, ◌∙◌}
-use Prim.Native.Nat.{◌-◌, ◌≤◌}
-use Rattle.forwarder.specs.Parts.{NoNearer}
-use Rattle.forwarder.proofs.Searching.{NoneBefore, no_marks, tested_card, step_passed, step_found, step_none, step_arrived}
+use Rattle.forwarder.proofs.Searching.{no_marks, tested_card, step_passed, step_found, step_none, step_arrived}
 use Rattle.forwarder.proofs.step.step_between.Goals as goal
 
 pub returns-then-a-b : goal.returns-then-a-b

@@ -2,7 +2,6 @@
 use native.Mathlib.Omega.{arith}
 use mathlib.Core.Path.{sym, ◌∙◌}
 use Rattle.forwarder.proofs.Frames.{step_refused, step_answered}
-use borrow.Author.Rules.{rules}
 use Rattle.forwarder.proofs.step.step_checked.Goals as goal
 
 pub returns-then-sizes-ne0 : goal.returns-then-sizes-ne0

@@ -1,10 +1,7 @@
 -- The loop's invariant: the first i numbers are copied, and those behind them are as they were. Assumes nothing.
-use mathlib.Core.List.{List}
-use native.Mathlib.Omega.{arith}
-use mathlib.Core.Path.{◌≡◌, refl, ap, ◌∙◌}
-use Prim.Native.Nat.{ℕ, ◌-◌, ◌≤◌}
-use lib.ListN.{length, get_or, set}
-use Rattle.forwarder.proofs.Copies.{copied, copied_length, copied_more, copied_all}
+use mathlib.Core.Path.{◌≡◌}
+use Prim.Native.Nat.{◌-◌, ◌≤◌}
+use Rattle.forwarder.proofs.Copies.{copied}
 use Rattle.forwarder.proofs.walk.copy_cards.Given as goal
 
 abbrev pub invariant-loop-i : goal.invariant-loop-i

@@ -1,7 +1,6 @@
 -- Stuck changes no count; an arrived frame raises both, or is refused where one would pass its limit. Assumes nothing.
 use native.Mathlib.Omega.{arith}
 use Rattle.forwarder.proofs.Answers.{counted_stuck, counted_arrived, counted_full_frames, counted_full_hops}
-use borrow.Author.Rules.{rules}
 use Rattle.forwarder.proofs.walk.counted.Goals as goal
 
 pub returns-then-arrived-eq0 : goal.returns-then-arrived-eq0

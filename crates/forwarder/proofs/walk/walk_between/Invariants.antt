@@ -1,8 +1,7 @@
 -- The loop's invariant: the cards written are those left and the present one, and behind those left stands what is still to be walked.
 -- Each step lessens the differing places, so there is room for its card. Assumes nothing.
-use native.Mathlib.Omega.{arith}
-use Prim.Native.Nat.{◌-◌, ◌<◌}
-use Rattle.forwarder.proofs.Routes.{OnTheWay, walk_begins, few_steps, room_left, far_is_card, walk_steps, walk_stops}
+use Prim.Native.Nat.{◌-◌}
+use Rattle.forwarder.proofs.Routes.{OnTheWay}
 use Rattle.forwarder.proofs.walk.walk_between.Given as goal
 
 abbrev pub invariant-loop-s : goal.invariant-loop-s

@@ -3,7 +3,6 @@ use native.Mathlib.Omega.{arith}
 use mathlib.Core.Path.{sym, ◌∙◌}
 use Rattle.forwarder.proofs.Answers.{says_no_room, says_no_frame, says_full, says_answered}
 use Rattle.forwarder.proofs.Arrival.{with_arrival}
-use borrow.Author.Rules.{rules}
 use Rattle.forwarder.proofs.walk.walk_counted.Goals as goal
 
 pub returns-then-met-ne-LENT_MET : goal.returns-then-met-ne-LENT_MET

@@ -1,14 +1,13 @@
 -- The first i cards are appended. Assumes nothing.
 use mathlib.Core.Path.{◌≡◌, subst}
-use Prim.Native.Nat.{ℕ, ◌+◌, ◌*◌, ◌-◌, ◌≤◌}
+use Prim.Native.Nat.{ℕ, ◌+◌, ◌*◌}
 use native.Mathlib.Omega.{arith}
 use lib.ListN.{length, get_or}
 use Rattle.rack.specs.Lists.{blocks}
 use Rattle.rack.specs.Buffers.{two_bytes, Appends}
 use Rattle.rack.proofs.WiringFile.{length_two_bytes}
-use Rattle.rack.proofs.Appending.{Appended, appended_none, appended_block}
+use Rattle.rack.proofs.Appending.{appended_none, appended_block}
 use Rattle.jolvente.proofs.RecordBytes.{cards_appended}
-use borrow.Author.Rules.{rules}
 use Rattle.jolvente.proofs.records.put_cards.Goals as goal
 
 pub loop-i-init : goal.loop-i-init

@@ -1,14 +1,9 @@
 -- The first i cards are appended. Assumes nothing.
-use mathlib.Core.Path.{◌≡◌, subst}
-use Prim.Native.Nat.{ℕ, ◌+◌, ◌*◌, ◌-◌, ◌≤◌}
-use native.Mathlib.Omega.{arith}
-use lib.ListN.{length, get_or}
+use Prim.Native.Nat.{◌-◌, ◌≤◌}
+use lib.ListN.{get_or}
 use Rattle.rack.specs.Lists.{blocks}
-use Rattle.rack.specs.Buffers.{two_bytes, Appends}
-use Rattle.rack.proofs.WiringFile.{length_two_bytes}
-use Rattle.rack.proofs.Appending.{Appended, appended_none, appended_block}
-use Rattle.jolvente.proofs.RecordBytes.{cards_appended}
-use borrow.Author.Rules.{rules}
+use Rattle.rack.specs.Buffers.{two_bytes}
+use Rattle.rack.proofs.Appending.{Appended}
 use Rattle.jolvente.proofs.records.put_cards.Given as goal
 
 abbrev pub invariant-loop-i : goal.invariant-loop-i

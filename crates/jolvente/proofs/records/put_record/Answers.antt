@@ -1,9 +1,7 @@
 -- Four numbers are appended to zeros, and fill them. Assumes nothing.
-use mathlib.Core.Path.{◌∙◌}
 use native.Mathlib.Omega.{arith}
 use lib.ListN.{length}
 use Rattle.jolvente.proofs.RecordBytes.{record_appended}
-use borrow.Author.Rules.{rules}
 use Rattle.jolvente.proofs.records.put_record.Goals as goal
 
 pub returns : goal.returns

@@ -3,7 +3,6 @@ use mathlib.Core.Path.{sym, ap, ◌∙◌}
 use Rattle.planner.specs.Words.{word_bit}
 use Rattle.text.specs.Decimals.{digit_code}
 use Rattle.listing_text.proofs.CardLines.{one_number_bit}
-use borrow.Author.Rules.{rules}
 use Rattle.listing_text.proofs.lines.column_digit.Goals as goal
 
 pub returns : goal.returns

@@ -6,7 +6,6 @@ use Rattle.planner.specs.Words.{word_bit}
 use Rattle.listing_text.specs.Listing.{dash}
 use Rattle.text.proofs.Putting.{puts_as}
 use Rattle.listing_text.proofs.CardLines.{address_none, address_columns, length_columns}
-use borrow.Author.Rules.{rules}
 use Rattle.listing_text.proofs.lines.put_address.Goals as goal
 
 pub put_byte-requires : goal.put_byte-requires

@@ -4,7 +4,6 @@ use Rattle.planner.specs.Words.{word_bit}
 use Rattle.listing_text.specs.Listing.{card_word, space, line_end, card_line}
 use Rattle.text.proofs.Putting.{puts_then, room_then, room_byte}
 use Rattle.listing_text.proofs.CardLines.{card_line_room}
-use borrow.Author.Rules.{rules}
 use Rattle.listing_text.proofs.lines.put_card_line.Goals as goal
 
 pub put_word_number-number_end-requires : goal.put_word_number-number_end-requires

@@ -1,8 +1,7 @@
 -- The lines of the first c cards are appended. Assumes nothing.
 use mathlib.Core.Path.{◌≡◌, refl, sym, subst, ◌∙◌}
-use Prim.Native.Nat.{ℕ, ◌-◌, ◌≤◌}
+use Prim.Native.Nat.{ℕ}
 use native.Mathlib.Omega.{arith}
-use lib.ListN.{length}
 use Rattle.rack.specs.Lists.{blocks}
 use Rattle.planner.specs.Words.{word_bit}
 use Rattle.rack.proofs.Tables.{blocks_snoc}

@@ -1,15 +1,11 @@
 -- The lines of the first c cards are appended. Assumes nothing.
-use mathlib.Core.Path.{◌≡◌, refl, sym, subst, ◌∙◌}
-use Prim.Native.Nat.{ℕ, ◌-◌, ◌≤◌}
-use native.Mathlib.Omega.{arith}
+use mathlib.Core.Path.{◌≡◌}
+use Prim.Native.Nat.{◌-◌, ◌≤◌}
 use lib.ListN.{length}
 use Rattle.rack.specs.Lists.{blocks}
 use Rattle.planner.specs.Words.{word_bit}
-use Rattle.rack.proofs.Tables.{blocks_snoc}
 use Rattle.listing_text.specs.Listing.{card_line}
 use Rattle.text.specs.Putting.{Puts}
-use Rattle.text.proofs.Putting.{puts_none, puts_then, puts_as, room_then}
-use Rattle.listing_text.proofs.CardLines.{blocks_room}
 use Rattle.listing_text.proofs.lines.put_card_lines.Given as goal
 
 abbrev pub invariant-loop-c : goal.invariant-loop-c

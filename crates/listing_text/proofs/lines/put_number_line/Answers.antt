@@ -3,7 +3,6 @@ use mathlib.Core.List.{◌++◌}
 use Rattle.text.specs.Decimals.{decimal}
 use Rattle.listing_text.specs.Listing.{number_line, line_end}
 use Rattle.text.proofs.Putting.{puts_then, room_first, room_byte}
-use borrow.Author.Rules.{rules}
 use Rattle.listing_text.proofs.lines.put_number_line.Goals as goal
 
 pub put_word_number-end-requires : goal.put_word_number-end-requires

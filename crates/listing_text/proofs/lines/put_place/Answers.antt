@@ -5,7 +5,6 @@ use lib.ListN.{length}
 use Rattle.listing_text.specs.Listing.{at_link, at_card}
 use Rattle.text.proofs.Putting.{puts_none, puts_as}
 use Rattle.listing_text.proofs.Refused.{place_link, place_card, place_none}
-use borrow.Author.Rules.{rules}
 use Rattle.listing_text.proofs.lines.put_place.Goals as goal
 
 pub put_word_number-requires : goal.put_word_number-requires

@@ -3,7 +3,6 @@ use Rattle.planner.specs.Words.{word_bit}
 use Rattle.listing_text.specs.Listing.{rack_lines}
 use Rattle.text.proofs.Putting.{puts_then, room_then}
 use Rattle.listing_text.proofs.CardLines.{rack_lines_room}
-use borrow.Author.Rules.{rules}
 use Rattle.listing_text.proofs.lines.put_rack.Goals as goal
 
 pub put_size_lines-cards-requires : goal.put_size_lines-cards-requires

@@ -4,7 +4,6 @@ use Rattle.rack.specs.Refusals.{refusal}
 use Rattle.listing_text.specs.Listing.{refused_word, line_end, refused_text}
 use Rattle.text.proofs.Putting.{puts_then, room_then, room_byte}
 use Rattle.listing_text.proofs.Refused.{refused_room}
-use borrow.Author.Rules.{rules}
 use Rattle.listing_text.proofs.lines.put_refused.Goals as goal
 
 pub put_word_number-number_end-requires : goal.put_word_number-number_end-requires

@@ -3,7 +3,6 @@ use mathlib.Core.Path.{◌∙◌}
 use mathlib.Core.List.{◌++◌}
 use Rattle.listing_text.specs.Listing.{cards_word, links_word, columns_word, number_line, size_lines}
 use Rattle.text.proofs.Putting.{puts_then, room_first, room_then}
-use borrow.Author.Rules.{rules}
 use Rattle.listing_text.proofs.lines.put_size_lines.Goals as goal
 
 pub put_number_line-links-requires : goal.put_number_line-links-requires

@@ -1,7 +1,6 @@
 -- The word is appended, then the number. Assumes nothing.
 use Rattle.text.specs.Decimals.{decimal}
 use Rattle.text.proofs.Putting.{puts_then, room_first, room_then}
-use borrow.Author.Rules.{rules}
 use Rattle.listing_text.proofs.lines.put_word_number.Goals as goal
 
 pub put_bytes-digits-requires : goal.put_bytes-digits-requires

@@ -2,7 +2,6 @@
 use mathlib.Core.Path.{◌≡◌, sym}
 use Prim.Native.Nat.{◌+◌, ◌/◌, ◌≤◌}
 use native.Mathlib.Omega.{arith}
-use borrow.Author.Rules.{rules}
 use lib.ListN.{length}
 use Rattle.rack.specs.PlanFile.{address_start}
 use Rattle.plan_tests.proofs.Places.{address_counted, card_bit}

@@ -1,6 +1,5 @@
 -- Stage after stage. Assumes nothing.
 use mathlib.Core.Path.{◌∙◌}
-use borrow.Author.Rules.{rules}
 use Rattle.rack.specs.PlanFile.{plan_bit}
 use Rattle.plan_cover.proofs.Covers.{cover_start}
 use Rattle.plan_cover.proofs.JoinedLinks.{covered_exactly}

@@ -1,7 +1,5 @@
 -- The side is the column or the rest of the cards. Assumes nothing.
 use mathlib.Core.Path.{refl}
-use native.Mathlib.Omega.{arith}
-use borrow.Author.Rules.{rules}
 use Rattle.plan_cover.proofs.cover.far_word.Goals as goal
 
 pub returns-then-rest-clause-is : goal.returns-then-rest-clause-is

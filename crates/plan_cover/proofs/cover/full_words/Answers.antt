@@ -1,9 +1,7 @@
 -- The words hold the cards before c. Assumes nothing.
 use mathlib.Core.Path.{◌≡◌, refl}
-use Prim.Native.Nat.{◌-◌, ◌≤◌}
 use native.Mathlib.Omega.{arith}
-use lib.ListN.{length, length-set}
-use Rattle.plan_cover.specs.Covers.{FullWords}
+use lib.ListN.{length-set}
 use Rattle.plan_cover.proofs.SetLoops.{zeros_full, full_fits, full_next}
 use Rattle.plan_cover.proofs.cover.full_words.Goals as goal
 

@@ -1,10 +1,8 @@
 -- The words hold the cards before c. Assumes nothing.
-use mathlib.Core.Path.{◌≡◌, refl}
+use mathlib.Core.Path.{◌≡◌}
 use Prim.Native.Nat.{◌-◌, ◌≤◌}
-use native.Mathlib.Omega.{arith}
-use lib.ListN.{length, length-set}
+use lib.ListN.{length}
 use Rattle.plan_cover.specs.Covers.{FullWords}
-use Rattle.plan_cover.proofs.SetLoops.{zeros_full, full_fits, full_next}
 use Rattle.plan_cover.proofs.cover.full_words.Given as goal
 
 abbrev pub invariant-loop-c : goal.invariant-loop-c

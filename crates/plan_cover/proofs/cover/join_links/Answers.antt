@@ -2,12 +2,10 @@
 -- link i, with its ends p and q and the column j that it crosses
 use mathlib.Core.Path.{◌≡◌, sym, ◌∙◌}
 use mathlib.Core.Logic.{◌≢◌}
-use Prim.Native.Nat.{ℕ, ◌-◌, ◌≤◌, ◌<◌}
+use Prim.Native.Nat.{ℕ, ◌<◌}
 use native.Mathlib.Omega.{arith}
-use lib.ListN.{get_or, take}
-use Rattle.rack.specs.PlanFile.{plan_bit, plan_wiring}
+use lib.ListN.{get_or}
 use Rattle.plan_tests.proofs.OrderedLinks.{ends_inside, ends_apart}
-use Rattle.plan_cover.specs.Covers.{CoverWords}
 use Rattle.plan_cover.proofs.JoinedLinks.{column_inside, column_part, more_covered, all_covered}
 use Rattle.plan_cover.proofs.cover.join_links.Goals as goal
 use Rattle.plan_cover.proofs.cover.join_links.Goals.{After-shared_slice_known-in-loop-i-1}

@@ -1,9 +1,7 @@
 -- The far side is joined to the words before t. Assumes nothing.
 use mathlib.Core.Path.{◌≡◌}
-use Prim.Native.Nat.{◌-◌, ◌≤◌}
 use native.Mathlib.Omega.{arith}
 use lib.ListN.{length-set}
-use Rattle.plan_cover.specs.Covers.{WordsJoined}
 use Rattle.plan_cover.proofs.JoinedWords.{none_joined, more_joined}
 use Rattle.plan_cover.proofs.cover.join_sides.Goals as goal
 

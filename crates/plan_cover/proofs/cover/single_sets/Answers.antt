@@ -1,11 +1,10 @@
 -- The cards before a have their sets. Assumes nothing.
 use mathlib.Core.Path.{◌≡◌, sym, ◌∙◌}
-use Prim.Native.Nat.{◌-◌, ◌≤◌}
 use native.Mathlib.Omega.{arith}
-use lib.ListN.{length, length-set}
+use lib.ListN.{length-set}
 use Rattle.rack.specs.Limits.{lent_words}
 use Rattle.rack.proofs.Zeros.{zeros_long, zeros_at}
-use Rattle.plan_cover.proofs.SetLoops.{Singles, single_next}
+use Rattle.plan_cover.proofs.SetLoops.{single_next}
 use Rattle.plan_cover.proofs.cover.single_sets.Goals as goal
 
 pub loop-a-init : goal.loop-a-init

@@ -1,11 +1,9 @@
 -- The cards before a have their sets. Assumes nothing.
-use mathlib.Core.Path.{◌≡◌, sym, ◌∙◌}
+use mathlib.Core.Path.{◌≡◌}
 use Prim.Native.Nat.{◌-◌, ◌≤◌}
-use native.Mathlib.Omega.{arith}
-use lib.ListN.{length, length-set}
+use lib.ListN.{length}
 use Rattle.rack.specs.Limits.{lent_words}
-use Rattle.rack.proofs.Zeros.{zeros_long, zeros_at}
-use Rattle.plan_cover.proofs.SetLoops.{Singles, single_next}
+use Rattle.plan_cover.proofs.SetLoops.{Singles}
 use Rattle.plan_cover.proofs.cover.single_sets.Given as goal
 
 abbrev pub invariant-loop-a : goal.invariant-loop-a

@@ -1,8 +1,5 @@
 -- The words before i are full. Assumes nothing.
-use mathlib.Core.Path.{◌≡◌}
-use Prim.Native.Nat.{ℕ, ◌*◌, ◌-◌, ◌%◌, ◌≤◌, ◌<◌}
 use native.Mathlib.Omega.{arith}
-use lib.ListN.{get_or}
 use borrow.Author.Count.{below_more}
 use Rattle.plan_cover.proofs.SetLoops.{words_agree, word_differs}
 use Rattle.plan_cover.proofs.cover.words_full.Goals as goal

@@ -1,7 +1,6 @@
 -- The lowest link that touches the last card is counted from 0, so the last one is it exactly if one more is m. Assumes nothing.
 use mathlib.Core.Path.{sym}
 use native.Mathlib.Omega.{arith}
-use borrow.Author.Rules.{rules}
 use Rattle.plan_parts.proofs.Searching.{lowest_few, hangs_counted}
 use Rattle.plan_parts.proofs.links.last_hangs.Goals as goal
 

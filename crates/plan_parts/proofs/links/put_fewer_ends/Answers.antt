@@ -1,5 +1,4 @@
 -- The two parts are appended one after the other. Assumes nothing.
-use borrow.Author.Rules.{rules}
 use Rattle.plan_parts.proofs.CopiedEnds.{fewer_ends}
 use Rattle.plan_parts.proofs.links.put_fewer_ends.Goals as goal
 

@@ -1,5 +1,4 @@
 -- The two parts are appended, each with an end of the new link behind it. Assumes nothing.
-use borrow.Author.Rules.{rules}
 use Rattle.plan_parts.proofs.CopiedEnds.{more_ends}
 use Rattle.plan_parts.proofs.links.put_more_ends.Goals as goal
 

@@ -1,6 +1,5 @@
 -- Either end decides. Assumes nothing.
 use native.Mathlib.Omega.{arith}
-use borrow.Author.Rules.{rules}
 use Rattle.plan_parts.proofs.Searching.{touches_first, touches_second}
 use Rattle.plan_parts.proofs.links.touches_card.Goals as goal
 

@@ -2,8 +2,6 @@
 use mathlib.Core.Path.{◌≡◌, refl}
 use native.Mathlib.Omega.{arith}
 use lib.ListN.{get_or}
-use lib.Pow.{pow_pos}
-use borrow.Author.Rules.{rules}
 use Rattle.rack.proofs.Bits.{bit_weight}
 use Rattle.plan_parts.proofs.AddressRows.{low_bits_fit}
 use Rattle.plan_parts.proofs.rows.byte_with_one.Goals as goal

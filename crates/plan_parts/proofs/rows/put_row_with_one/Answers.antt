@@ -1,6 +1,5 @@
 -- The whole bytes are copied, and the byte of the new column is put behind them. Assumes nothing.
 use native.Mathlib.Omega.{arith}
-use borrow.Author.Rules.{rules}
 use Rattle.plan_parts.proofs.AddressRows.{row_one_appended}
 use Rattle.reader.proofs.Addresses.{address_counted}
 use Rattle.plan_parts.proofs.rows.put_row_with_one.Goals as goal

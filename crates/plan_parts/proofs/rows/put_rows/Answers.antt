@@ -1,11 +1,10 @@
 -- The loop's invariant: the rows of the cards passed are appended. Assumes nothing.
 use mathlib.Core.Path.{◌≡◌, subst}
-use Prim.Native.Nat.{ℕ, ◌-◌, ◌≤◌}
+use Prim.Native.Nat.{ℕ}
 use native.Mathlib.Omega.{arith}
-use borrow.Author.Rules.{rules}
 use Rattle.rack.specs.Lists.{tabulate, blocks}
 use Rattle.rack.specs.Buffers.{Appends}
-use Rattle.rack.proofs.Appending.{Appended, appended_none, appended_block}
+use Rattle.rack.proofs.Appending.{appended_none, appended_block}
 use Rattle.rack.proofs.Tables.{length_tabulate}
 use Rattle.plan_writer.proofs.WrittenPlan.{address_room, address_inside}
 use Rattle.reader.proofs.Addresses.{address_counted}

@@ -1,15 +1,7 @@
 -- The loop's invariant: the rows of the cards passed are appended. Assumes nothing.
-use mathlib.Core.Path.{◌≡◌, subst}
-use Prim.Native.Nat.{ℕ, ◌-◌, ◌≤◌}
-use native.Mathlib.Omega.{arith}
-use borrow.Author.Rules.{rules}
+use Prim.Native.Nat.{◌-◌, ◌≤◌}
 use Rattle.rack.specs.Lists.{tabulate, blocks}
-use Rattle.rack.specs.Buffers.{Appends}
-use Rattle.rack.proofs.Appending.{Appended, appended_none, appended_block}
-use Rattle.rack.proofs.Tables.{length_tabulate}
-use Rattle.plan_writer.proofs.WrittenPlan.{address_room, address_inside}
-use Rattle.reader.proofs.Addresses.{address_counted}
-use Rattle.plan_parts.proofs.AddressRows.{lesser_within, row_appended}
+use Rattle.rack.proofs.Appending.{Appended}
 use Rattle.plan_parts.specs.Parts.{row_byte}
 use Rattle.plan_parts.proofs.rows.put_rows.Given as goal
 

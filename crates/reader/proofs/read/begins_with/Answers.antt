@@ -1,9 +1,6 @@
 -- The first i bytes agree. Assumes nothing.
-use mathlib.Core.Path.{◌≡◌}
-use Prim.Native.Nat.{ℕ, ◌-◌, ◌≤◌, ◌<◌}
 use native.Mathlib.Omega.{arith}
 use borrow.Author.Count.{below_more}
-use lib.ListN.{length, get_or}
 use Rattle.reader.proofs.Parts.{beginning_same, beginning_other}
 use Rattle.reader.proofs.read.begins_with.Goals as goal
 

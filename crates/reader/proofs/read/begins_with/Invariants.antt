@@ -1,10 +1,7 @@
 -- The first i bytes agree. Assumes nothing.
 use mathlib.Core.Path.{◌≡◌}
 use Prim.Native.Nat.{ℕ, ◌-◌, ◌≤◌, ◌<◌}
-use native.Mathlib.Omega.{arith}
-use borrow.Author.Count.{below_more}
 use lib.ListN.{length, get_or}
-use Rattle.reader.proofs.Parts.{beginning_same, beginning_other}
 use Rattle.reader.proofs.read.begins_with.Given as goal
 
 abbrev pub invariant-loop-i : goal.invariant-loop-i

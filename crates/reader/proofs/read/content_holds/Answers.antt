@@ -11,7 +11,6 @@ use lib.ListN.{length, replicate, length-replicate}
 use Rattle.rack.specs.Limits.{most_links, lent_plan}
 use Rattle.rack.specs.PlanFile.{addresses_start, plan_links}
 use Rattle.reader.proofs.Plan.{layout_facts}
-use borrow.Author.Rules.{rules}
 use Rattle.reader.proofs.read.content_holds.Goals as goal
 use Rattle.reader.proofs.read.content_holds.Goals.{After-write_plan-answer}
 

@@ -1,10 +1,10 @@
 -- The first i bytes of the part are appended. Assumes nothing.
 use mathlib.Core.Path.{◌≡◌, subst}
-use Prim.Native.Nat.{ℕ, ◌-◌, ◌≤◌}
+use Prim.Native.Nat.{ℕ}
 use native.Mathlib.Omega.{arith}
 use lib.ListN.{take, drop}
 use Rattle.rack.specs.Buffers.{Appends}
-use Rattle.rack.proofs.Appending.{Appended, appended_none, appended_byte}
+use Rattle.rack.proofs.Appending.{appended_none, appended_byte}
 use Rattle.reader.proofs.Parts.{part_snoc, length_part}
 use Rattle.reader.proofs.read.copy_part.Goals as goal
 

@@ -1,11 +1,7 @@
 -- The first i bytes of the part are appended. Assumes nothing.
-use mathlib.Core.Path.{◌≡◌, subst}
-use Prim.Native.Nat.{ℕ, ◌-◌, ◌≤◌}
-use native.Mathlib.Omega.{arith}
+use Prim.Native.Nat.{◌-◌, ◌≤◌}
 use lib.ListN.{take, drop}
-use Rattle.rack.specs.Buffers.{Appends}
-use Rattle.rack.proofs.Appending.{Appended, appended_none, appended_byte}
-use Rattle.reader.proofs.Parts.{part_snoc, length_part}
+use Rattle.rack.proofs.Appending.{Appended}
 use Rattle.reader.proofs.read.copy_part.Given as goal
 
 abbrev pub invariant-loop-i : goal.invariant-loop-i

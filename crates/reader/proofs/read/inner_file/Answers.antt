@@ -5,7 +5,6 @@ use native.Mathlib.Omega.{arith}
 use lib.ListN.{length, length-replicate}
 use Rattle.rack.specs.Limits.{most_links}
 use Rattle.reader.proofs.InnerFile.{inner_copied}
-use borrow.Author.Rules.{rules}
 use Rattle.reader.proofs.read.inner_file.Goals as goal
 
 pub copy_part-requires : goal.copy_part-requires

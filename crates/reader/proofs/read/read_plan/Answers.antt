@@ -2,7 +2,6 @@
 use mathlib.Core.Path.{sym, ◌∙◌}
 use Rattle.reader.proofs.Reading.{says_layout, says_laid_out}
 use Rattle.reader.proofs.ReadAnswer.{read_says_layout, read_says_sizes, read_says_content, read_promise}
-use borrow.Author.Rules.{rules}
 use Rattle.reader.proofs.read.read_plan.Goals as goal
 
 pub returns-then-sizes-ne0 : goal.returns-then-sizes-ne0

@@ -1,6 +1,5 @@
 -- One byte is appended. Assumes nothing.
 use Rattle.text.proofs.Putting.{puts_byte}
-use borrow.Author.Rules.{rules}
 use Rattle.text.proofs.put.put_byte.Goals as goal
 
 pub returns : goal.returns

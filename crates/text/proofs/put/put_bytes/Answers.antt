@@ -1,13 +1,13 @@
 -- The first i bytes are appended. Assumes nothing.
 use mathlib.Core.Path.{◌≡◌, subst, ap, ◌∙◌}
 use mathlib.Core.List.{List}
-use Prim.Native.Nat.{ℕ, ◌+◌, ◌-◌, ◌≤◌}
+use Prim.Native.Nat.{ℕ, ◌+◌}
 use native.Mathlib.Omega.{arith}
 use native.Mathlib.Numerals.{add-one}
 use lib.ListN.{length, take}
 use lib.Seq.{length-take-le, take-suc, take-length}
 use Rattle.rack.specs.Buffers.{Appends}
-use Rattle.rack.proofs.Appending.{Appended, appended_none, appended_byte}
+use Rattle.rack.proofs.Appending.{appended_none, appended_byte}
 use Rattle.text.proofs.put.put_bytes.Goals as goal
 
 pub loop-i-init : goal.loop-i-init

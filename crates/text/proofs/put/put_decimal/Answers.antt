@@ -1,6 +1,5 @@
 -- Ten digits. Assumes nothing.
 use Rattle.text.specs.Decimals.{decimal}
-use borrow.Author.Rules.{rules}
 use Rattle.text.proofs.put.put_decimal.Goals as goal
 
 pub put_digits-requires : goal.put_digits-requires

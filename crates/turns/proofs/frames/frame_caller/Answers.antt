@@ -1,7 +1,6 @@
 -- The third byte. Assumes nothing.
 use mathlib.Core.Path.{refl}
 use native.Mathlib.Omega.{arith}
-use borrow.Author.Rules.{rules}
 use Rattle.turns.specs.Turns.{frame_caller}
 use Rattle.turns.proofs.frames.frame_caller.Goals as goal
 

@@ -1,5 +1,4 @@
 -- The number in the first two bytes. Assumes nothing.
-use borrow.Author.Rules.{rules}
 use Rattle.turns.specs.Turns.{frame_goal}
 use Rattle.turns.proofs.frames.frame_goal.Goals as goal
 
