@@ -28,7 +28,7 @@ use pairs::{pairs_measure, words_used};
 use plan_writer::put_plan;
 use rack::bytes::number_at;
 use rack::fill::{clear_bytes, clear_words};
-use rack::limits::{LENT_HOPS, LENT_PLAN, LENT_WORDS};
+use rack::limits::{LENT_HOPS, LENT_PLAN, LENT_WORDS, MOST_LINKS};
 use survey::hops::{all_hops, parity_refusal};
 use survey::links::{links_refusal, sizes_fault};
 use survey::reach::reach_refusal;
@@ -96,7 +96,8 @@ fn plan_formed(file: &[u8], n: usize, m: usize, words: &mut [u64], hops: &mut [u
     requires { Formed file.now n m × (words.old ≡ replicate lent_words 0) × (hops.old ≡ replicate lent_hops 0) }
     ensures { RackPlanned (file_wiring file.now) result words.new hops.new }
 {
-    let order = link_order(file, n, m);
+    let mut order = [0u16; MOST_LINKS];
+    link_order(file, n, m, &mut order);
     let f = reach_refusal(file, n, m, &order, hops);
     if f.number != 0 {
         return refused(f.number, f.at);
