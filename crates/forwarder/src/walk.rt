@@ -40,26 +40,23 @@ struct Route {
     met: [u16; LENT_MET],
 }
 
-// Walks from card `a` to card `b`.
-fn walk_between(ones: &[u8; 256], plan: &[u8], sizes: Sizes, a: usize, b: usize) -> Route
+// Walks from card `a` to card `b`. The route is written where it is lent, so that its cards stand once on the stack.
+fn walk_between(ones: &[u8; 256], plan: &[u8], sizes: Sizes, a: usize, b: usize, route: &mut Route)
     requires { Counts ones.now × LaidOut plan.now sizes × (a < sizes.cards) × (b < sizes.cards) }
-    ensures { RouteIs (walk plan.now a b) result }
+    ensures { RouteIs (walk plan.now a b) route.new }
 {
-    let mut met = [0u16; LENT_MET];
-    met[0] = a as u16;
+    route.met = [0u16; LENT_MET];
+    route.met[0] = a as u16;
     let mut taken: usize = 0;
     let mut s = step_between(ones, plan, sizes, a, b);
     while s.outcome == 2 {
         let at = s.far;
         taken += 1;
-        met[taken] = at as u16;
+        route.met[taken] = at as u16;
         s = step_between(ones, plan, sizes, at as usize, b);
     }
-    Route {
-        arrived: s.outcome,
-        hops: taken as u32,
-        met: met,
-    }
+    route.arrived = s.outcome;
+    route.hops = taken as u32;
 }
 
 // A refusal, with the counts as they are.
@@ -131,12 +128,16 @@ pub fn walk_counted(plan: &[u8], from: u32, goal: u32, tally: Tally, met: &mut [
         return not_walked(sizes.number, tally);
     }
     let ones = ones_table();
-    let route = walk_between(&ones, plan, sizes, from as usize, goal as usize);
+    let mut route = Route {
+        arrived: 0,
+        hops: 0,
+        met: [0u16; LENT_MET],
+    };
+    walk_between(&ones, plan, sizes, from as usize, goal as usize, &mut route);
     let answer = counted(tally, route.arrived, route.hops);
     if answer.number != 0 {
         return answer;
     }
-    let cards = route.met;
-    copy_cards(&cards, met);
+    copy_cards(&route.met, met);
     answer
 }

@@ -15,8 +15,8 @@ known c =
     let card = far_is_card c.args.plan.now c.args.a c.args.b _ _ _ l.invariant c.loop-s-test.true in
     (omega (arith, z.columns, z.few_columns), omega (arith, z.cards), omega (arith, z.few))
 
-pub overflow_cast-met : goal.overflow_cast-met
-overflow_cast-met c = omega (arith, c.requires.1.few)
+pub overflow_cast-route : goal.overflow_cast-route
+overflow_cast-route c = omega (arith, c.requires.1.few)
 
 pub step_between-s-requires : goal.step_between-s-requires
 step_between-s-requires c = c.requires
@@ -27,21 +27,21 @@ loop-s-init c = walk_begins _ _ _ _ c.step_between-s.ensures
 pub overflow_add-taken : goal.overflow_add-taken
 overflow_add-taken c = omega (arith, known c)
 
-pub overflow_cast-met-in-loop-s : goal.overflow_cast-met-in-loop-s
-overflow_cast-met-in-loop-s c = omega (arith, known c)
+pub overflow_cast-route-in-loop-s : goal.overflow_cast-route-in-loop-s
+overflow_cast-route-in-loop-s c = omega (arith, known c)
 
-pub offset_bounds-met-taken : goal.offset_bounds-met-taken
-offset_bounds-met-taken c = omega (arith, known c)
+pub offset_bounds-route-taken : goal.offset_bounds-route-taken
+offset_bounds-route-taken c = omega (arith, known c)
 
-pub bounds-met-taken : goal.bounds-met-taken
-bounds-met-taken c = omega (arith, known c)
+pub bounds-route-taken : goal.bounds-route-taken
+bounds-route-taken c = omega (arith, known (goal.at.bounds-route-taken c).In-loop-s)
 
 pub overflow_cast-at : goal.overflow_cast-at
-overflow_cast-at c = omega (arith, known c)
+overflow_cast-at c = omega (arith, known (goal.at.overflow_cast-at c).In-loop-s)
 
 pub step_between-s-requires-in-loop-s : goal.step_between-s-requires-in-loop-s
 step_between-s-requires-in-loop-s c =
-    (c.requires.0, c.requires.1, (known c).1, c.requires.3)
+    (c.requires.0, c.requires.1, (known (goal.at.step_between-s-requires-in-loop-s c).In-loop-s).1, c.requires.3)
 
 pub loop-s-smaller : goal.loop-s-smaller
 loop-s-smaller c = omega (arith, known (goal.at.loop-s-smaller c).In-loop-s)
@@ -53,8 +53,8 @@ loop-s-preserved c =
     c.loop-s-test.true (omega (arith, z.columns, z.few_columns)) _
     c.step_between-s-in-loop-s.ensures
 
-pub overflow_cast-result : goal.overflow_cast-result
-overflow_cast-result c =
+pub overflow_cast-route-2 : goal.overflow_cast-route-2
+overflow_cast-route-2 c =
     let z = c.requires.1 in
     omega (arith, z.columns, z.few_columns, few_steps c.args.plan.now c.args.a c.args.b _ _ _ c.loop-s.invariant)
 

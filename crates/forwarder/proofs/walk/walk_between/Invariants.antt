@@ -5,7 +5,7 @@ use Rattle.forwarder.proofs.Routes.{OnTheWay}
 use Rattle.forwarder.proofs.walk.walk_between.Given as goal
 
 abbrev pub invariant-loop-s : goal.invariant-loop-s
-invariant-loop-s l = OnTheWay l.plan l.a l.b l.met l.taken l.s
+invariant-loop-s l = OnTheWay l.plan l.a l.b l.route.met l.taken l.s
 
 abbrev pub decreases-loop-s : goal.decreases-loop-s
 decreases-loop-s l = 256 - l.taken

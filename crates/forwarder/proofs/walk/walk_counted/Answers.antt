@@ -23,17 +23,17 @@ returns-then-sizes-ne0 c =
       full = holds.1.1;
     }
 
-pub walk_between-route-requires : goal.walk_between-route-requires
-walk_between-route-requires c =
+pub walk_between-requires : goal.walk_between-requires
+walk_between-requires c =
     let s = c.frame_sizes-sizes in
     (c.ones_table-ones.ensures.counts, s.ensures.sizes (omega arith), s.ensures.from (omega arith), s.ensures.goal (omega arith))
 
 pub returns-then-answer-ne0 : goal.returns-then-answer-ne0
 returns-then-answer-ne0 c =
     let holds = with_arrival c.args.plan.now c.args.from c.args.goal c.args.tally c.counted-answer.result c.args.met.now c.args.met.now
-    (says_full _ _ _ _ _ c.walk_between-route.result _ (omega (arith, c.if-met-ne-LENT_MET.false))
+    (says_full _ _ _ _ _ c.walk_between.new.route _ (omega (arith, c.if-met-ne-LENT_MET.false))
     (sym c.frame_sizes-sizes.ensures.number ∙ omega (arith, c.if-sizes-ne0.false))
-    c.walk_between-route.ensures c.counted-answer.ensures (λ e. omega (arith, c.if-answer-ne0.true))) in
+    c.walk_between.ensures c.counted-answer.ensures (λ e. omega (arith, c.if-answer-ne0.true))) in
     record {
       says = holds.0;
       arrives = holds.1.0;
@@ -42,14 +42,14 @@ returns-then-answer-ne0 c =
 
 pub copy_cards-requires : goal.copy_cards-requires
 copy_cards-requires c =
-    (c.walk_between-route.ensures.room, omega (arith, c.if-met-ne-LENT_MET.false))
+    (c.walk_between.ensures.room, omega (arith, c.if-met-ne-LENT_MET.false))
 
 pub returns : goal.returns
 returns c =
     let holds = with_arrival c.args.plan.now c.args.from c.args.goal c.args.tally c.counted-answer.result c.args.met.now c.copy_cards.new.met
-    (says_answered _ _ _ _ _ c.walk_between-route.result _ (omega (arith, c.if-met-ne-LENT_MET.false))
+    (says_answered _ _ _ _ _ c.walk_between.new.route _ (omega (arith, c.if-met-ne-LENT_MET.false))
     (sym c.frame_sizes-sizes.ensures.number ∙ omega (arith, c.if-sizes-ne0.false))
-    c.walk_between-route.ensures c.counted-answer.ensures _ (omega (arith, c.if-answer-ne0.false))
+    c.walk_between.ensures c.counted-answer.ensures _ (omega (arith, c.if-answer-ne0.false))
     c.copy_cards.ensures) in
     record {
       says = holds.0;
