@@ -16,7 +16,7 @@ use Rattle.rack.proofs.Accepted.{clear_file}
 use Rattle.rack.proofs.WiringFile.{Fits, two_bytes_value, wiring_at_written, wiring_at_cards, wiring_at_count, wiring_at_link}
 use Rattle.plan_writer.specs.Writing.{word_byte, written_bytes}
 use Rattle.planner.specs.PlanBytes.{plan_bytes}
-use Rattle.planner.proofs.WriteAnswer.{ends_written}
+use Rattle.writing.proofs.SaidWritten.{ends_written}
 use Rattle.reader.specs.Plan.{plan_refusal}
 use Rattle.reader.proofs.Plan.{layout_facts, layout_head, plan_clear}
 use Rattle.writing.specs.Guessing.{GuessSays}

@@ -1,1 +1,2 @@
+pub mod SaidWritten
 pub mod GuessedPlans

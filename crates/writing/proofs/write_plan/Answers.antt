@@ -2,7 +2,8 @@
 use mathlib.Core.Path.{sym, ◌∙◌, ap}
 use Prim.Native.Nat.{ℕ}
 use lib.ListN.{replicate}
-use Rattle.planner.proofs.WriteAnswer.{write_says_one, write_says_accepted, write_says_over}
+use Rattle.planner.proofs.WriteAnswer.{write_says_one}
+use Rattle.writing.proofs.SaidWritten.{write_says_accepted, write_says_over}
 use Rattle.planner.proofs.WritePromise.{plan_found}
 use Rattle.writing.proofs.write_plan.Goals as goal
 
