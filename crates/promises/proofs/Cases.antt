@@ -16,7 +16,6 @@ use Rattle.counting.specs.Ones.{ones_in}
 use Rattle.rack.proofs.Logic.{by_bool}
 use Rattle.rack.proofs.Lists.{In, all_in}
 use Rattle.planner.specs.PlanBytes.{address_bytes, plan_bytes}
-use Rattle.plan_tests.specs.Tests.{lowest_apart, crossed, columns_in_order, leads, cards_covered, first_zero, spare_zero}
 use Rattle.reader.specs.Plan.{layout_holds, content_holds, plan_refusal}
 use Rattle.reader.specs.Reading.{layout_refusal, card_refusal}
 use Rattle.forwarder.specs.Forwarding.{leads_nearer, step, walk_from, walk}
@@ -36,10 +35,10 @@ use Rattle.carried.specs.Carried.{carries, carried_bytes}
 use Rattle.text.specs.Decimals.{digits, decimal}
 use Rattle.listing_text.specs.Listing.{cards_word, links_word, columns_word, card_word, refused_word, at_link, at_card, space, dash, line_end}
 use Rattle.listing_text.specs.Listing.{number_line, address_text, card_line, size_lines, rack_lines, rack_text, names_link, place_text, refused_text, listing}
-use Rattle.promises.specs.Claims.{hex_digit, hex_bytes, hex, Claim, ends_so, counts_of, same_traffic, turns_of, chooses, first_failing, claim_holds}
+use Rattle.promises.specs.Claims.{hex_digit, hex_bytes, hex, Claim, ends_so, counts_of, same_traffic, turns_of, chooses, claim_holds}
 use Rattle.promises.specs.Claims.{Case, case, rack, file_of, plan_of, case_holds, failing}
 use Rattle.promises.specs.Cases.{ring_of_four, ring_of_six, ring_plan, star_of_nine_plan, star_of_ten_plan, doubled_plan}
-use Rattle.promises.specs.Cases.{required_cases, size_cases, link_cases, twin_cases, rack_cases, plan_cases, test_cases, call_cases, crossing_cases}
+use Rattle.promises.specs.Cases.{required_cases, size_cases, link_cases, twin_cases, rack_cases, plan_cases, call_cases, crossing_cases}
 use Rattle.promises.specs.Cases.{caller_cases, turn_cases, conference_cases, last_card_cases, opened_cases, cases}
 
 -- A CLAIM THAT FAILS has no proof, and the checker's message shows it, behind the name of its row. Both types are pairs: to check a
@@ -52,10 +51,9 @@ None ((s, c) ∷ rest) = Fails s c × Unit {0}
 
 -- THE TEST
 none_fails : None (failing cases)
-unfolding cases required_cases size_cases link_cases twin_cases rack_cases plan_cases test_cases call_cases crossing_cases caller_cases turn_cases conference_cases
+unfolding cases required_cases size_cases link_cases twin_cases rack_cases plan_cases call_cases crossing_cases caller_cases turn_cases conference_cases
     last_card_cases opened_cases ring_of_four ring_of_six ring_plan star_of_nine_plan star_of_ten_plan doubled_plan rack file_of plan_of hex hex_bytes hex_digit ends_so
-    counts_of same_traffic turns_of chooses first_failing claim_holds failing
-    lowest_apart crossed columns_in_order leads cards_covered first_zero spare_zero
+    counts_of same_traffic turns_of chooses claim_holds failing
     number_bit bits_value joins linked neighbours touches other_end has_path hops unreached connected
     nearer_first side column same_column add_column add_columns columns column_count address hamming embeds
     or_else lowest_fault link_fault links_refusal reach_refusal parity_refusal embedding_refusal rack_refusal wiring_refusal

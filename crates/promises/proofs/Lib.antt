@@ -2,3 +2,4 @@ pub mod Promises
 pub mod PlanCalls
 pub mod OpenedPlans
 pub mod Cases
+pub mod TestCases

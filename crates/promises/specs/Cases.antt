@@ -3,7 +3,7 @@ use Rattle.std.specs.Prelude.{List, [], ◌∷◌, ◌++◌, ℕ, take, set, rep
 use Rattle.rack.specs.Wiring.{Link, link, wiring}
 use Rattle.planner.specs.PlanBytes.{plan_bytes}
 use Rattle.promises.specs.Claims.{hex, Case, rack, file_of, plan_of}
-use Rattle.promises.specs.Claims.{file_is, refused, sums, addresses, lists, plan_size, plan_is, read_as, fails_at, walks, stuck, steps_over, walk_answers}
+use Rattle.promises.specs.Claims.{file_is, refused, sums, addresses, lists, plan_size, plan_is, read_as, walks, stuck, steps_over, walk_answers}
 use Rattle.promises.specs.Claims.{gets_stuck, differ_in, differ_nowhere, adds_up, crosses, crosses_none, column_is}
 use Rattle.promises.specs.Claims.{counts_to, caller_answers, lent_answers, first_turn, second_turn, choice_answers}
 use Rattle.promises.specs.Claims.{confers, confers_nowhere, conference_answers}
@@ -143,22 +143,6 @@ plan_cases =
     ∷ plan_of "a walk from a card to itself" ring_plan (walks 1 1 0 (1 ∷ []) ∷ [])
     ∷ []
 
--- 13 by the tests of a plan by itself: each of them is needed
-unfoldable pub test_cases : List Case
-test_cases =
-    plan_of "P5's plan passes" ring_plan (read_as 0 ∷ fails_at 0 ∷ [])
-    ∷ plan_of "P3's plan passes" doubled_plan (read_as 0 ∷ fails_at 0 ∷ [])
-    ∷ plan_of "a third link between two cards" (hex "02 00 03 00 01 00" ++ hex "00 00 01 00 00 00 01 00 00 00 01 00" ++ hex "00 01") (read_as 13 ∷ fails_at 1 ∷ [])
-    ∷ plan_of "P4's plan with its two columns in the other order" (hex "03 00 02 00 02 00" ++ hex "00 00 01 00 01 00 02 00" ++ hex "00 02 03") (read_as 13 ∷ fails_at 2 ∷ [])
-    ∷ plan_of "a link that crosses two columns" (hex "02 00 01 00 02 00" ++ hex "00 00 01 00" ++ hex "00 03") (read_as 13 ∷ fails_at 2 ∷ [])
-    ∷ plan_of "a column that no link crosses" (hex "02 00 01 00 02 00" ++ hex "00 00 01 00" ++ hex "00 01") (read_as 13 ∷ fails_at 2 ∷ [])
-    ∷ plan_of "card 0 has 1" (hex "02 00 01 00 01 00" ++ hex "00 00 01 00" ++ hex "01 00") (read_as 13 ∷ fails_at 3 ∷ [])
-    ∷ plan_of "P5's plan with a spare bit" (set ring_plan 23 5) (read_as 13 ∷ fails_at 4 ∷ [])
-    ∷ plan_of "four in line with P5's addresses: linked cards differ in one place, the ends too" (hex "04 00 03 00 02 00" ++ hex "00 00 01 00 02 00 01 00 02 00 03 00" ++ hex "00 01 03 02")
-    (read_as 13 ∷ fails_at 5 ∷ stuck 0 3 ∷ [])
-    ∷ plan_of "two cards and no link" (hex "02 00 00 00 00 00") (read_as 13 ∷ fails_at 5 ∷ [])
-    ∷ []
-
 -- 12, 14 and 15 of a walk, the first that applies; a stuck walk raises no count
 unfoldable pub call_cases : List Case
 call_cases =
@@ -285,5 +269,5 @@ opened_cases =
 
 unfoldable pub cases : List Case
 cases =
-    required_cases ++ size_cases ++ link_cases ++ twin_cases ++ rack_cases ++ plan_cases ++ test_cases ++ call_cases ++ crossing_cases
+    required_cases ++ size_cases ++ link_cases ++ twin_cases ++ rack_cases ++ plan_cases ++ call_cases ++ crossing_cases
     ++ caller_cases ++ turn_cases ++ conference_cases ++ last_card_cases ++ opened_cases

@@ -8,11 +8,9 @@ use Rattle.rack.specs.Wiring.{Link, wiring, link_at}
 use Rattle.rack.specs.Hops.{hops}
 use Rattle.rack.specs.WiringFile.{file_bytes, file_wiring, file_refusal}
 use Rattle.rack.specs.Columns.{columns, column_count, address}
-use Rattle.rack.specs.Refusals.{links_refusal}
-use Rattle.rack.specs.PlanFile.{plan_cards, plan_columns, plan_wiring, plan_bit, plan_hamming, address_size, address_start}
+use Rattle.rack.specs.PlanFile.{plan_cards, plan_columns, plan_wiring, plan_hamming, address_size, address_start}
 use Rattle.counting.specs.Ones.{ones_in}
 use Rattle.planner.specs.PlanBytes.{plan_bytes}
-use Rattle.plan_tests.specs.Tests.{columns_in_order, first_zero, spare_zero, cards_covered}
 use Rattle.reader.specs.Plan.{plan_refusal}
 use Rattle.forwarder.specs.Forwarding.{step, Walk, walk}
 use Rattle.forwarder.specs.Calls.{lent_met, walk_hops, walk_refusal}
@@ -61,8 +59,6 @@ pub data Claim : Type 0 where
   plan_size : ℕ → Claim
   plan_is : List ℕ → Claim
   read_as : (number : ℕ) → Claim
-  -- the first of the tests of a plan by itself that fails: 1 links, 2 the order of the columns, 3 card 0, 4 spare bits, 5 cards covered; 0 for none
-  fails_at : (test : ℕ) → Claim
   -- on the plan, the walk from a to b arrives after so many hops with these cards met; the step from a to b is stuck
   walks : (a b hops : ℕ) → (met : List ℕ) → Claim
   stuck : (a b : ℕ) → Claim
@@ -129,17 +125,6 @@ turns_of x y = set (set (replicate most_callers 0) 3 x) 5 y
 unfoldable pub chooses : (first : Bool) → (f g ts ts_now : List ℕ) → Bool
 chooses b f g ts us = eqb (choice_refusal f g ts) 0 && not (differ b (first_goes f g ts)) && same eqb (turns_after f g ts) us
 
-unfoldable pub first_failing : List ℕ → ℕ
-first_failing ps =
-    let w = plan_wiring ps in
-    let k = plan_columns ps in
-    let r = plan_bit ps in
-    cond (not (eqb (links_refusal w).number 0)) 1
-    (cond (not (columns_in_order k r 0 w.links)) 2
-    (cond (not (first_zero k r)) 3
-    (cond (not (spare_zero w.cards k r)) 4
-    (cond (not (cards_covered w k r)) 5 0))))
-
 unfoldable pub claim_holds : (file plan : List ℕ) → Claim → Bool
 claim_holds bs ps (file_is xs) = same eqb bs xs
 claim_holds bs ps (refused n i) = eqb (file_refusal bs).number n && eqb (file_refusal bs).at i
@@ -151,7 +136,6 @@ claim_holds bs ps (lists text) = same eqb (listing bs) (codes text)
 claim_holds bs ps (plan_size n) = eqb (length ps) n
 claim_holds bs ps (plan_is xs) = same eqb ps xs
 claim_holds bs ps (read_as n) = eqb (plan_refusal ps) n
-claim_holds bs ps (fails_at n) = eqb (first_failing ps) n
 claim_holds bs ps (walks a b hops met) = ends_so 1 hops met (walk ps a b)
 claim_holds bs ps (stuck a b) = eqb (step ps a b).outcome 0
 claim_holds bs ps (steps_over a b i c) = let s = step ps a b in eqb s.outcome 2 && eqb s.link i && eqb s.far c

@@ -1,2 +1,3 @@
 pub mod Claims
 pub mod Cases
+pub mod TestCases
