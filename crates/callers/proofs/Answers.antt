@@ -1,41 +1,40 @@
 -- What a walk by caller answers and leaves: a refusal all as it was, and else what the walk with that caller's counts does. Assumes nothing.
+use Rattle.std.specs.Prelude.{Err}
 use mathlib.Core.Path.{◌≡◌, refl, sym, ap, ap₂, subst, ◌∙◌}
-use mathlib.Core.Logic.{◌≢◌}
 use mathlib.Core.List.{List}
 use Prim.Native.Nat.{ℕ, ◌+◌, ◌*◌, ◌≤◌}
+use native.Mathlib.Omega.{arith}
 use lib.ListN.{length}
 use borrow.Author.Tests.{ne_eqb}
+use Rattle.rack.specs.Refused.{refusal_of}
+use Rattle.rack.specs.declared.refused.Refused.{Refused}
 use Rattle.reader.specs.Reading.{layout_refusal}
-use Rattle.forwarder.specs.Calls.{lent_met, walk_refusal, WalkSays}
+use Rattle.rack.proofs.RefusalNumbers.{refusal_numbered}
+use Rattle.forwarder.specs.Calls.{Walked, lent_met, walk_refusal, WalkSays}
 use Rattle.forwarder.specs.declared.walk.Tally.{Tally}
-use Rattle.forwarder.specs.declared.walk.Walked.{Walked}
-use Rattle.crossing.specs.Crossing.{FrameWalkSays}
-use Rattle.crossing.specs.declared.FrameWalk.{FrameWalk}
+use Rattle.crossing.specs.Crossing.{FrameWalk, FrameWalkSays}
 use Rattle.turns.specs.Turns.{least_frame, frame_goal, frame_caller}
 use Rattle.traffic.specs.Traffic.{caller_refusal, tally_of, with_tally, raised}
 use Rattle.traffic.specs.Promises.{NoneCounted}
 use Rattle.traffic.specs.declared.Traffic.{Traffic}
 use Rattle.traffic.proofs.Promises.{none_counted}
-use Rattle.callers.specs.Walking.{WalkIs, CallerWalkSays, LentWalkSays, not_walked}
-use Rattle.callers.specs.declared.CallerWalk.{CallerWalk}
+use Rattle.callers.specs.Walking.{CallerWalk, WalkIs, CallerWalkSays, LentWalkSays, caller_walk_of}
 use Rattle.callers.proofs.Refused.{walk_number, lent_whole}
 
 module _ (ps : List ℕ) (a b u : ℕ) (t : Traffic) where
   -- A REFUSAL
-  pub refused_is : (x y : ℕ) (r : CallerWalk) (old : List ℕ) → x ≢ 0 → y ≡ x → r ≡ not_walked x t → WalkIs y ps a b u t r old old
+  pub refused_is : (x : ℕ) (e : Refused) (old : List ℕ) → x ≡ (refusal_of e).number → WalkIs x ps a b u t (caller_walk_of t (Err e)) old old
   unfolding NoneCounted
-  refused_is x y r old n e is =
-      let z = ne_eqb x 0 n in
-      subst (λ (q : CallerWalk). WalkIs y ps a b u t q old old) (sym is)
-      (subst (λ (k : ℕ). WalkIs k ps a b u t (not_walked x t) old old) (sym e)
-      (record {
-        number = refl;
+  refused_is x e old f =
+      let z = ne_eqb x 0 (λ h. refusal_numbered e (sym f ∙ h)) in
+      record {
+        number = sym f;
         arrived = rw z refl;
         hops = rw z refl;
         crossed = record { found = rw z refl; column = rw z refl };
         traffic = sym (none_counted t u 0);
         met = rw z refl;
-      }))
+      }
 
   -- THE WALK with that caller's counts, which go back into the record
   abbrev answered : FrameWalk → Traffic → CallerWalk
@@ -68,6 +67,11 @@ module _ (ps : List ℕ) (a b u : ℕ) (t : Traffic) where
     pub walk_answered : length old ≡ lent_met → caller_refusal ps u ≡ 0 → CallerWalkSays ps a b u t (answered f q) old new
     walk_answered room z =
         subst (λ (k : ℕ). WalkIs k ps a b u t (answered f q) old new) (sym (walk_number ps a b u t (length old) room z)) walk_is
+
+  -- .. as the walk's refusal hands them back
+  pub put_back : t ≡ with_tally t u (tally_of t u)
+  unfolding NoneCounted raised tally_of
+  put_back = sym (none_counted t u 0) ∙ ap (with_tally t u) (ap₂ (λ (x y : ℕ). record { frames = x; hops = y }) (omega arith) (omega arith))
 
   -- AND BACK: the walk with that caller's counts
   module _ (x : ℕ) (r : CallerWalk) (old new : List ℕ) (s : WalkIs x ps a b u t r old new) where

@@ -18,9 +18,8 @@ use Rattle.traffic.specs.Traffic.{tally_of, raised}
 use Rattle.traffic.specs.Promises.{NoneCounted}
 use Rattle.traffic.specs.declared.Traffic.{Traffic}
 use Rattle.traffic.proofs.Promises.{none_counted}
-use Rattle.callers.specs.Walking.{caller_walk_refusal, lent_walk_refusal, WalkIs, CallerWalkSays, LentWalkSays}
+use Rattle.callers.specs.Walking.{CallerWalk, caller_walk_refusal, lent_walk_refusal, WalkIs, CallerWalkSays, LentWalkSays}
 use Rattle.callers.specs.Walking.{CallerFrame, CallerCanTake, CallerArrived, CallerFull, LentFrame, LentCanTake, LentArrived}
-use Rattle.callers.specs.declared.CallerWalk.{CallerWalk}
 use Rattle.callers.proofs.Refused.{caller_walk_number, lent_whole}
 use Rattle.callers.proofs.Answers.{as_walked, walk_says}
 

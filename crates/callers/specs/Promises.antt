@@ -9,9 +9,8 @@ use Rattle.forwarder.specs.Forwarding.{walk}
 use Rattle.forwarder.specs.Calls.{lent_met, walk_hops}
 use Rattle.turns.specs.Turns.{frame_goal, frame_caller}
 use Rattle.traffic.specs.declared.Traffic.{Traffic}
-use Rattle.callers.specs.Walking.{caller_walk_refusal, lent_walk_refusal, WalkIs, CallerWalkSays, LentWalkSays}
+use Rattle.callers.specs.Walking.{CallerWalk, caller_walk_refusal, lent_walk_refusal, WalkIs, CallerWalkSays, LentWalkSays}
 use Rattle.callers.specs.Walking.{CallerArrived, CallerFull, LentArrived}
-use Rattle.callers.specs.declared.CallerWalk.{CallerWalk}
 
 -- demand 3 of the call, with every condition written out: "A walk names its caller, and demand 3's counts are then that caller's"
 unfoldable pub CallerWalkArrives : Type 0

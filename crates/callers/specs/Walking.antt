@@ -1,16 +1,36 @@
 -- What a walk by caller answers and leaves behind, by numbers and of a lent frame. Assumes nothing: these are definitions.
-use Rattle.std.specs.Prelude.{◌≡◌, true, not, cond, List, ◌∷◌, ◌++◌, ℕ, suc, ◌-◌, ◌≤◌, ◌<◌, ltb, eqb, length, replicate}
+use Rattle.std.specs.Prelude.{◌≡◌, true, not, cond, List, ◌∷◌, ◌++◌, ℕ, suc, ◌-◌, ◌≤◌, ◌<◌, ltb, eqb, length, replicate, Result, Ok, Err}
 use Rattle.rack.specs.Limits.{most_callers}
+use Rattle.rack.specs.Lists.{one}
+use Rattle.rack.specs.Refused.{refusal_of}
+use Rattle.rack.specs.declared.refused.Refused.{Refused}
 use Rattle.rack.specs.Hops.{hops, is_path}
 use Rattle.rack.specs.PlanFile.{plan_columns, plan_wiring}
 use Rattle.reader.specs.Reading.{layout_refusal}
 use Rattle.forwarder.specs.Forwarding.{walk}
 use Rattle.forwarder.specs.Calls.{lent_met, walk_hops, walk_refusal, Frame, CanTake}
-use Rattle.crossing.specs.Crossing.{walk_column, ColumnOrNone, no_column}
+use Rattle.crossing.specs.Crossing.{FirstColumn, walk_column, column_of, ColumnOrNone, no_column}
 use Rattle.turns.specs.Turns.{least_frame, frame_goal, frame_caller}
 use Rattle.traffic.specs.Traffic.{caller_refusal, tally_of, raised}
 use Rattle.traffic.specs.declared.Traffic.{Traffic}
-use Rattle.callers.specs.declared.CallerWalk.{CallerWalk}
+use Rattle.callers.specs.declared.CallerWalk.{CallerWalk as Answered}
+
+-- a refusal's number, 0 for none; 1 for arrived or 0 for stuck, the hops, the first column crossed, and the counts handed back
+pub record CallerWalk : Type 0 where
+  pub number : ℕ
+  pub arrived : ℕ
+  pub hops : ℕ
+  pub crossed : FirstColumn
+  pub traffic : Traffic
+
+-- a refusal: zeros, and the counts as they were
+abbrev pub not_walked : (number : ℕ) → Traffic → CallerWalk
+not_walked x t = record { number = x; arrived = 0; hops = 0; crossed = no_column; traffic = t }
+
+-- what a call answers that walks with these counts
+abbrev pub caller_walk_of : Traffic → Result Answered Refused → CallerWalk
+caller_walk_of t (Ok w) = record { number = 0; arrived = one w.arrived; hops = w.hops; crossed = column_of w.crossed; traffic = w.traffic }
+caller_walk_of t (Err e) = not_walked (refusal_of e).number t
 
 -- 1: the lent numbers have not their length; 12; 18; then, by that caller's counts, 14 and 15
 unfoldable pub caller_walk_refusal : List ℕ → (a b caller : ℕ) → Traffic → (room : ℕ) → ℕ
@@ -40,10 +60,6 @@ CallerWalkSays ps a b u t r old new = WalkIs (caller_walk_refusal ps a b u t (le
 
 abbrev pub LentWalkSays : (ps : List ℕ) (a : ℕ) (frame : List ℕ) (t : Traffic) (r : CallerWalk) (old new : List ℕ) → Type 0
 LentWalkSays ps a f t r old new = WalkIs (lent_walk_refusal ps a f t (length old)) ps a (frame_goal f) (frame_caller f) t r old new
-
--- a refusal: zeros, and the counts as they were
-abbrev pub not_walked : (number : ℕ) → Traffic → CallerWalk
-not_walked x t = record { number = x; arrived = 0; hops = 0; crossed = no_column; traffic = t }
 
 -- DEMAND 3 BY CALLER (docs/REQUIREMENTS.md)
 pub record CallerFrame (ps : List ℕ) (a b u : ℕ) (old : List ℕ) : Type 0 where

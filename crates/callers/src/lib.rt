@@ -1,38 +1,23 @@
 // Walks by caller: each raises the counts of the caller that it names. By numbers, and of a lent frame.
 #![tactic(auto)]
 
-ghost use Rattle.std.specs.Prelude.{◌≡◌};
-ghost use Rattle.callers.specs.Walking.{CallerArrived, CallerCanTake, CallerFrame, CallerFull, CallerWalkSays, not_walked};
+ghost use Rattle.callers.specs.Walking.{CallerArrived, CallerCanTake, CallerFrame, CallerFull, CallerWalkSays, caller_walk_of};
 ghost use Rattle.callers.specs.Walking.{LentArrived, LentCanTake, LentFrame, LentWalkSays};
 
-use crossing::places::{FirstColumn, no_column};
 use crossing::walk_frame;
 use forwarder::walk::LENT_MET;
+use rack::refused::Refused;
 use reader::layout::plan_layout;
-use traffic::{Traffic, caller_fault, tally_of, with_tally};
-use turns::frames::{LEAST_FRAME, frame_caller, frame_goal};
+use traffic::{Traffic, caller_fault};
+use turns::frames::Frame;
 
-// A refusal's number, 0 for none; 1 for arrived or 0 for stuck, the hops, the first column crossed, and the counts handed back.
+// Whether a walk arrived or is stuck, its hops, the first column crossed, and the counts handed back.
 #[derive(Clone, Copy)]
 pub struct CallerWalk {
-    pub number: u32,
-    pub arrived: u32,
+    pub arrived: bool,
     pub hops: u32,
-    pub crossed: FirstColumn,
+    pub crossed: Option<u32>,
     pub traffic: Traffic,
-}
-
-// A refusal, with the counts as they are.
-fn not_walked(number: u32, traffic: Traffic) -> CallerWalk
-    ensures { result ≡ not_walked number traffic }
-{
-    CallerWalk {
-        number: number,
-        arrived: 0,
-        hops: 0,
-        crossed: no_column(),
-        traffic: traffic,
-    }
 }
 
 // A walk by caller: 1, 12, 18, 14, 15. The counts go in and come back; only the caller's are raised, and stuck is an answer that changes none.
@@ -43,30 +28,23 @@ pub fn walk_by_caller(
     caller: u32,
     traffic: Traffic,
     met: &mut [u16],
-) -> CallerWalk
-    ensures says { CallerWalkSays plan.now from goal caller traffic result met.old met.new }
-    ensures arrives { CallerFrame plan.now from goal caller met.old → CallerCanTake plan.now from goal caller traffic → CallerArrived plan.now from goal caller traffic result met.new }
-    ensures full { CallerFrame plan.now from goal caller met.old → (CallerCanTake plan.now from goal caller traffic → ⊥) → CallerFull traffic result met.old met.new }
+) -> Result<CallerWalk, Refused>
+    ensures says { CallerWalkSays plan.now from goal caller traffic (caller_walk_of traffic result) met.old met.new }
+    ensures arrives { CallerFrame plan.now from goal caller met.old → CallerCanTake plan.now from goal caller traffic → CallerArrived plan.now from goal caller traffic (caller_walk_of traffic result) met.new }
+    ensures full { CallerFrame plan.now from goal caller met.old → (CallerCanTake plan.now from goal caller traffic → ⊥) → CallerFull traffic (caller_walk_of traffic result) met.old met.new }
 {
     if met.len() != LENT_MET {
-        return not_walked(1, traffic);
+        return Err(Refused::Lent);
     }
-    let fault = caller_fault(plan, caller);
-    if fault != 0 {
-        return not_walked(fault, traffic);
-    }
-    let tally = tally_of(traffic, caller as usize);
-    let f = walk_frame(plan, from, goal, tally, met);
-    let w = f.walked;
-    let crossed = f.crossed;
-    let counted = w.tally;
-    CallerWalk {
-        number: w.number,
-        arrived: w.arrived,
-        hops: w.hops,
-        crossed: crossed,
-        traffic: with_tally(traffic, caller as usize, counted),
-    }
+    caller_fault(plan, caller)?;
+    let u = caller as usize;
+    let walk = walk_frame(plan, from, goal, traffic.tally_of(u), met)?;
+    Ok(CallerWalk {
+        arrived: walk.walked.arrived,
+        hops: walk.walked.hops,
+        crossed: walk.crossed,
+        traffic: traffic.with_tally(u, walk.walked.tally),
+    })
 }
 
 // The walk of a lent frame to its destination, by its caller: 1, 12, 19, 18, 14, 15.
@@ -76,27 +54,15 @@ pub fn walk_lent(
     frame: &[u8],
     traffic: Traffic,
     met: &mut [u16],
-) -> CallerWalk
-    ensures says { LentWalkSays plan.now from frame.now traffic result met.old met.new }
-    ensures arrives { LentFrame plan.now from frame.now met.old → LentCanTake plan.now from frame.now traffic → LentArrived plan.now from frame.now traffic result met.new }
-    ensures full { LentFrame plan.now from frame.now met.old → (LentCanTake plan.now from frame.now traffic → ⊥) → CallerFull traffic result met.old met.new }
+) -> Result<CallerWalk, Refused>
+    ensures says { LentWalkSays plan.now from frame.now traffic (caller_walk_of traffic result) met.old met.new }
+    ensures arrives { LentFrame plan.now from frame.now met.old → LentCanTake plan.now from frame.now traffic → LentArrived plan.now from frame.now traffic (caller_walk_of traffic result) met.new }
+    ensures full { LentFrame plan.now from frame.now met.old → (LentCanTake plan.now from frame.now traffic → ⊥) → CallerFull traffic (caller_walk_of traffic result) met.old met.new }
 {
     if met.len() != LENT_MET {
-        return not_walked(1, traffic);
+        return Err(Refused::Lent);
     }
-    let sizes = plan_layout(plan);
-    if sizes.number != 0 {
-        return not_walked(sizes.number, traffic);
-    }
-    if frame.len() < LEAST_FRAME {
-        return not_walked(19, traffic);
-    }
-    walk_by_caller(
-        plan,
-        from,
-        frame_goal(frame),
-        frame_caller(frame),
-        traffic,
-        met,
-    )
+    plan_layout(plan)?;
+    let read = Frame::read(frame)?;
+    walk_by_caller(plan, from, read.goal, read.caller as u32, traffic, met)
 }

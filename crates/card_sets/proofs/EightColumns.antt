@@ -10,12 +10,11 @@ use lib.ListN.{length, get_or, replicate}
 use lib.Pow.{pow_mono}
 use Rattle.rack.specs.Limits.{lent_plan, lent_words}
 use Rattle.rack.specs.Bits.{number_bit, bits_value}
-use Rattle.rack.specs.PlanFile.{plan_bit, address_size, addresses_start, address_start}
+use Rattle.rack.specs.PlanFile.{Sized, plan_bit, address_size, addresses_start, address_start}
 use Rattle.rack.proofs.Logic.{by_eq}
 use Rattle.rack.proofs.Bits.{bits_value_fits}
 use Rattle.rack.proofs.PlanFile.{address_size_is}
 use Rattle.rack.proofs.Zeros.{zeros_long, zeros_at}
-use Rattle.plan_tests.specs.Sizes.{Sized}
 use Rattle.plan_tests.proofs.Places.{byte_bit, address_counted}
 use Rattle.card_sets.specs.Sets.{set_word, ColumnWords}
 use Rattle.card_sets.specs.WordBytes.{bytes_value, BytesPut, EightWritten}
@@ -37,8 +36,8 @@ module _ (ps : List ℕ) (n m k : ℕ) (z : Sized ps n m k) where
 
     pub card_inside : b < address_size k → (i : ℕ) → i < count → start + b + i * size < length ps
     card_inside l i h =
-        let at = address_counted ps n m k z (first + i) size (start + i * size) (omega arith) long (later_start i) in
-        omega (arith, at.1)
+        let at = address_counted ps n m k z (first + i) (start + i * size) (omega arith) (later_start i ∙ ap (λ (x : ℕ). addresses_start m + (first + i) * x) long) in
+        omega (arith, at.1, long)
 
     abbrev bit : (j i : ℕ) → Bool
     bit j i = number_bit (get_or ps (start + b + i * size) 0) j

@@ -6,8 +6,7 @@ use mathlib.Core.List.{List, []}
 use Prim.Native.Nat.{ℕ, ◌+◌}
 use native.Mathlib.Omega.{arith}
 use lib.Dec.{eqb}
-use Rattle.reader.specs.Reading.{LayoutSays}
-use Rattle.reader.specs.declared.layout.Sizes.{Sizes}
+use Rattle.reader.specs.Reading.{Sizes, LayoutSays}
 use Rattle.reader.proofs.Reading.{says_layout, says_laid_out, says_no_layout}
 use Rattle.carried.specs.Carried.{carries, carried_bytes}
 

@@ -5,14 +5,12 @@ use Rattle.std.specs.Borrow.{Bor}
 use Rattle.rack.specs.PlanFile.{plan_cards, plan_links, plan_columns}
 use Rattle.reader.specs.Plan.{layout_holds}
 use Rattle.reader.specs.Promises.{Measured}
-use Rattle.reader.specs.Reading.{card_refusal, PartIs}
-use Rattle.reader.specs.declared.layout.Sizes.{Sizes}
+use Rattle.reader.specs.Reading.{Sizes, card_refusal, PartIs}
 use Rattle.plan_totals.specs.Summed.{total_refusal, ReadWithTotalSays}
 use Rattle.traffic.specs.declared.Traffic.{Traffic}
-use Rattle.callers.specs.Walking.{CallerWalkSays, CallerFrame, CallerCanTake, CallerArrived, CallerFull}
-use Rattle.callers.specs.declared.CallerWalk.{CallerWalk}
-use Rattle.conference.specs.Conference.{three_refusal, ConferenceIs}
-use Rattle.conference.specs.declared.Conference.{Conference}
+use Rattle.callers.specs.Walking.{CallerWalk, CallerWalkSays, CallerFrame, CallerCanTake, CallerArrived, CallerFull}
+use Rattle.conference.specs.Conference.{Conference, three_refusal, ConferenceIs}
+use Rattle.carried.specs.declared.Opened.{Opened}
 
 -- the bytes have a plan's layout, and the sizes carried with them are those in them
 unfoldable pub carries : List ℕ → (n m k : ℕ) → Bool
@@ -21,6 +19,9 @@ carries ps n m k = layout_holds ps && eqb n (plan_cards ps) && eqb m (plan_links
 -- what a call on an opened plan sees: its bytes, or none where its sizes are not those in them. No bytes are 12 in every call
 unfoldable pub carried_bytes : List ℕ → (n m k : ℕ) → List ℕ
 carried_bytes ps n m k = cond (carries ps n m k) ps []
+
+abbrev pub seen : Opened → List ℕ
+seen p = carried_bytes p.bytes.now p.cards p.links p.columns
 
 -- reading, with the promise that forwarding leans on
 pub record ReadWithPromise (ps : List ℕ) (total : ℕ) (r : Sizes) : Type 0 where

@@ -1,135 +1,179 @@
-// A label for the column of each link, card by card breadth first. An entry of a card's list is a link and the card at its other end; that of
-// a card in `ups` leads to the card before it.
-ghost use Rattle.std.specs.Prelude.{◌<◌, ◌≤◌};
-ghost use Rattle.rack.specs.Limits.{most_cards, most_links};
+// A label for the column of each link, card by card breadth first, and the addresses that the labels give. A label is a number from 1 to 255:
+// the place in the queue of the card that opens it.
+use crate::sets::{self, has, insert_above, lowest_apart, many_apart};
+use link_order::breadth::Breadth;
+use link_order::lists::Entry;
+use link_order::queue::Queue;
+use rack::limits::{LENT_WORDS, MOST_CARDS, MOST_COLUMNS, MOST_LINKS};
+use rack::views::SizedFile;
 
-use crate::ways::{
-    close_loop, highest_apart, label_from, label_or, label_place, lowest_apart, rename,
-};
-use link_order::lists::{CARD_PLACES, ENTRIES, card, entry_card, entry_link, place};
-use rack::limits::{LENT_WORDS, MOST_CARDS, MOST_LINKS};
+// The label of each link, the labels of each card, and the entry of each card that leads to the card before it.
+#[derive(Drop)]
+pub struct Labels<'a> {
+    file: SizedFile<'a>,
+    of_links: [Option<u8>; MOST_LINKS],
+    sets: [u64; LENT_WORDS],
+    ups: [Entry; MOST_CARDS],
+}
 
-// The first entry of card `c` that leads to a card of a level above its own, or with `last` the last one; 0 if there is none.
-fn entry_up(
-    starts: &[u16; CARD_PLACES],
-    list: &[u32; ENTRIES],
-    levels: &[u16; MOST_CARDS],
-    c: usize,
-    last: bool,
-) -> u32
-    requires { c < most_cards }
-{
-    let end = place(starts[c + 1]);
-    let mut up: u32 = 0;
-    let mut k = place(starts[c]);
-    while k < end {
-        let x = list[k];
-        if levels[entry_card(x)] < levels[c] {
-            up = x;
-            if !last {
-                return up;
+// The first entry of a card that leads to a card of fewer hops, or with `last` the last one.
+fn entry_up(met: &Breadth, card: u8, last: bool) -> Option<Entry> {
+    let leads_up = |entry: &&Entry| met.hops_of(entry.card) < met.hops_of(card);
+    let mut entries = met.lists.entries_of(card).iter();
+    let up = if last {
+        entries.rfind(leads_up)
+    } else {
+        entries.find(leads_up)
+    };
+    up.copied()
+}
+
+impl<'a> Labels<'a> {
+    ghost use Rattle.std.specs.Prelude.{◌≤◌};
+    ghost use Rattle.rack.specs.Limits.{most_columns};
+
+    // No link of a file has a label.
+    pub fn empty(file: SizedFile<'a>) -> Self {
+        Labels {
+            file,
+            of_links: [None; MOST_LINKS],
+            sets: [0; LENT_WORDS],
+            ups: [Entry { link: 0, card: 0 }; MOST_CARDS],
+        }
+    }
+
+    // The label of the link of an entry.
+    fn label_of(&self, entry: Entry) -> Option<u8> {
+        self.of_links[usize::from(entry.link)]
+    }
+
+    // The entry of a card that leads to the card before it.
+    fn up_of(&self, card: u8) -> Entry {
+        self.ups[usize::from(card)]
+    }
+
+    // Puts a label in place of another everywhere.
+    fn rename(&mut self, old: u8, new: u8) {
+        for c in 0..self.file.cards {
+            sets::rename(&mut self.sets, c as u8, old, new);
+        }
+        for label in &mut self.of_links[..self.file.links] {
+            *label = label.map(|x| if x == old { new } else { x });
+        }
+    }
+
+    // The labels on the way from card `from` up to card 0 that card `other` has not.
+    fn labels_up(&self, from: u8, other: u8, found: &mut Queue) {
+        let mut card = from;
+        for _ in 0..MOST_CARDS {
+            if card == 0 {
+                return;
+            }
+            let up = self.up_of(card);
+            if let Some(label) = self.label_of(up)
+                && !has(&self.sets, other, label)
+            {
+                found.push(label);
+            }
+            card = up.card;
+        }
+    }
+
+    // Closes the loop of the ways from card 0 to `p` and `q`: all labels that part the two but the topmost of each way are renamed, those of
+    // the one way to those of the other in reversed order. None where the ways have not as many.
+    fn close_loop(&mut self, p: u8, q: u8) -> Option<()> {
+        let mut left = Queue::empty();
+        let mut right = Queue::empty();
+        self.labels_up(p, q, &mut left);
+        self.labels_up(q, p, &mut right);
+        if left.numbers().len() != right.numbers().len() {
+            return None;
+        }
+        let opposite = right.numbers().iter().rev().skip(1);
+        for (old, new) in left.numbers().iter().zip(opposite) {
+            self.rename(*old, *new);
+        }
+        Some(())
+    }
+
+    // Labels the links of entries `x` and `y` of a card: each crosses the column that parts the two cards before it, on the other's side.
+    fn label_two(&mut self, x: Entry, y: Entry) -> Option<()> {
+        let p = x.card;
+        let q = y.card;
+        if many_apart(&self.sets, p, q) {
+            self.close_loop(p, q)?;
+        }
+        let new = lowest_apart(&self.sets, q, p)?;
+        if let Some(old) = self.label_of(x)
+            && old != new
+        {
+            self.rename(old, new);
+        }
+        self.of_links[usize::from(x.link)] = Some(new);
+        self.of_links[usize::from(y.link)] = lowest_apart(&self.sets, p, q);
+        Some(())
+    }
+
+    // Labels the links of a card that lead up, where there are links to more than one card above; `up` is one of them. None where a link
+    // leads to as many hops as the card has (an odd loop), or where no labels fit.
+    fn label_ups(&mut self, met: &Breadth, card: u8, up: Entry) -> Option<()> {
+        let hops = met.hops_of(card);
+        for entry in met.lists.entries_of(card) {
+            if met.hops_of(entry.card) == hops {
+                return None;
+            }
+            if met.hops_of(entry.card) < hops && entry.card != up.card {
+                self.label_two(up, *entry)?;
             }
         }
-        k += 1;
+        Some(())
     }
-    up
-}
 
-// Labels the links of entries `x` and `y` of a card: each crosses the column that parts the two cards before it, on the other's side.
-fn label_two(
-    labels: &mut [u8; MOST_LINKS],
-    sets: &mut [u64; LENT_WORDS],
-    ups: &[u32; MOST_CARDS],
-    n: usize,
-    m: usize,
-    x: u32,
-    y: u32,
-) -> bool
-    requires { (n ≤ most_cards) × (m ≤ most_links) }
-{
-    let p = entry_card(x);
-    let q = entry_card(y);
-    if lowest_apart(sets, p, q) != highest_apart(sets, p, q) {
-        if !close_loop(labels, sets, ups, n, m, p, q) {
-            return false;
+    // Labels the links that lead up from each card that is met but the first, with the labels of the cards and the entries that lead up.
+    // None where no labels fit. No link has a label at entry.
+    pub fn label_cards(&mut self, met: &Breadth, last: bool) -> Option<()> {
+        for (opened, card) in (1..=u8::MAX).zip(met.cards().iter().skip(1)) {
+            let up = entry_up(met, *card, last)?;
+            self.label_ups(met, *card, up)?;
+            let label = self.label_of(up).unwrap_or(opened);
+            self.of_links[usize::from(up.link)] = Some(label);
+            insert_above(&mut self.sets, *card, up.card, label);
+            self.ups[usize::from(*card)] = up;
         }
+        Some(())
     }
-    let old = labels[entry_link(x)];
-    let new = lowest_apart(sets, q, p);
-    if old != 0 {
-        if old != new {
-            rename(labels, sets, n, m, old, new);
-        }
-    }
-    labels[entry_link(x)] = new;
-    labels[entry_link(y)] = lowest_apart(sets, p, q);
-    new != 0
-}
 
-// Labels the links of card `c` that lead up, where there are links to more than one card above; `x` is one of them. False where a
-// link stays on the card's own level (an odd loop), or where no labels fit.
-fn label_ups(
-    starts: &[u16; CARD_PLACES],
-    list: &[u32; ENTRIES],
-    levels: &[u16; MOST_CARDS],
-    c: usize,
-    x: u32,
-    n: usize,
-    m: usize,
-    labels: &mut [u8; MOST_LINKS],
-    sets: &mut [u64; LENT_WORDS],
-    ups: &[u32; MOST_CARDS],
-) -> bool
-    requires { (c < most_cards) × (n ≤ most_cards) × (m ≤ most_links) }
-{
-    let last = place(starts[c + 1]);
-    let mut k = place(starts[c]);
-    while k < last {
-        let y = list[k];
-        let d = entry_card(y);
-        if levels[d] == levels[c] {
-            return false;
-        }
-        if levels[d] < levels[c] {
-            if d != entry_card(x) {
-                if !label_two(labels, sets, ups, n, m, x, y) {
-                    return false;
-                }
+    // The column of each label, in the order of the links that have them, in a buffer without columns at entry; gives how many they are.
+    fn number_labels(&self, columns: &mut [Option<u8>; 256]) -> usize
+        ensures { result ≤ most_columns }
+    {
+        let mut k = 0;
+        for label in self.of_links[..self.file.links].iter().flatten() {
+            let column = &mut columns[usize::from(*label)];
+            if column.is_none() && k < MOST_COLUMNS {
+                *column = Some(k as u8);
+                k += 1;
             }
         }
-        k += 1;
+        k
     }
-    true
-}
 
-// Labels the links that lead up from each card of the queue but the first, with the sets of labels and the entries that lead up. False
-// where no labels fit. The buffers are zero at entry.
-pub fn label_cards(
-    starts: &[u16; CARD_PLACES],
-    list: &[u32; ENTRIES],
-    levels: &[u16; MOST_CARDS],
-    queue: &[u8; CARD_PLACES],
-    n: usize,
-    m: usize,
-    last: bool,
-    labels: &mut [u8; MOST_LINKS],
-    sets: &mut [u64; LENT_WORDS],
-    ups: &mut [u32; MOST_CARDS],
-) -> bool
-    requires { (n ≤ most_cards) × (m ≤ most_links) }
-{
-    let mut h: usize = 1;
-    while h < n {
-        let c = card(queue[h]);
-        let x = entry_up(starts, list, levels, c, last);
-        if !label_ups(starts, list, levels, c, x, n, m, labels, sets, ups) {
-            return false;
+    // Puts the addresses of the cards into the words: each card but the first has that of the card before it, with the column of the link
+    // between them. Gives how many the columns are.
+    pub fn put_addresses(&self, cards: &[u8], words: &mut [u64; LENT_WORDS]) -> usize
+        ensures { result ≤ most_columns }
+    {
+        let mut columns = [None; 256];
+        let k = self.number_labels(&mut columns);
+        words.fill(0);
+        for card in cards.iter().skip(1) {
+            let up = self.up_of(*card);
+            if let Some(label) = self.label_of(up)
+                && let Some(column) = columns[usize::from(label)]
+            {
+                insert_above(words, *card, up.card, column);
+            }
         }
-        let label = label_or(labels[entry_link(x)], h as u8);
-        labels[entry_link(x)] = label;
-        label_from(sets, c, entry_card(x), label_place(label));
-        ups[c] = x;
-        h += 1;
+        k
     }
-    true
 }

@@ -1,5 +1,6 @@
--- What refuses three callers, and the answer from what the sizes and the search give. Assumes nothing.
-use mathlib.Core.Path.{◌≡◌, refl, sym, ap, ◌∙◌, subst}
+-- What refuses three callers, and the answer from what reading and the search give. Assumes nothing.
+use Rattle.std.specs.Prelude.{Option, None, Some, MatchOption, Ok, Err}
+use mathlib.Core.Path.{◌≡◌, refl, sym, ◌∙◌}
 use mathlib.Core.Bool.{◌||◌}
 use mathlib.Core.Logic.{◌⊎◌, inl, inr, ◌≢◌}
 use mathlib.Core.List.{List}
@@ -10,12 +11,11 @@ use borrow.Author.Tests.{eq-eqb, ne_eqb, le-leb, lt-leb, le-ltb, lt-ltb}
 use Rattle.rack.specs.PlanFile.{plan_cards, plan_wiring}
 use Rattle.rack.proofs.Logic.{by_eq, by_lt, or_right}
 use Rattle.reader.specs.Plan.{plan_refusal}
-use Rattle.reader.specs.Promises.{Measured}
-use Rattle.reader.specs.Reading.{LaidOut, ReadSays}
-use Rattle.reader.specs.declared.layout.Sizes.{Sizes}
-use Rattle.conference.specs.Conference.{conference, three_refusal, conference_refusal, ConferenceIs}
-use Rattle.conference.specs.Callers.{no_card}
-use Rattle.conference.specs.declared.Conference.{Conference}
+use Rattle.rack.specs.Refused.{refusal_of}
+use Rattle.rack.specs.declared.refused.Refused.{Refused}
+use Rattle.rack.specs.declared.refused.Refused.TheVariants.{NoCard}
+use Rattle.rack.proofs.RefusalNumbers.{refusal_numbered}
+use Rattle.conference.specs.Conference.{conference, conference_of, three_refusal, conference_refusal, ConferenceIs}
 
 -- all three are below n, or some one is not
 abbrev pub SomeOutside : (n a b c : ℕ) → Type 0
@@ -55,61 +55,23 @@ module _ (ps : List ℕ) (a b c : ℕ) where
   unfolding conference_refusal
   answered_inside z = clear_inside (plan_refusal ps) n a b c z
 
-  -- THE ANSWER without a card: a refusal, or the search found none
-  no_card_is : (refused x : ℕ) (q : Conference) → q ≡ no_card x → x ≡ refused → (x ≡ 0 → n ≤ conference (plan_wiring ps) a b c)
-      → ConferenceIs refused ps a b c q
-  no_card_is refused x q e f none =
-      subst (ConferenceIs refused ps a b c) (sym e)
-      (record {
-        number = f;
-        found = by_eq x 0
-            (λ z. rw (eq-eqb x 0 z, le-ltb (conference (plan_wiring ps) a b c) n (none z)) refl)
-            (λ d. rw (ne_eqb x 0 d) refl);
-        card = refl;
-      })
+  -- THE ANSWER of a reading that was refused, and of a plan that was read: 14, or what the search gives
+  pub says_before : (e : Refused) → ConferenceIs (three_refusal (refusal_of e).number n a b c) ps a b c (conference_of (Err e))
+  says_before e =
+      let d = refusal_numbered e in
+      record { number = sym (refused_before (refusal_of e).number n a b c d); found = rw (ne_eqb (refusal_of e).number 0 d) refl; card = refl }
 
-  module _ (r : Sizes) where
-    abbrev refusal : ℕ
-    refusal = three_refusal r.number n a b c
+  pub says_outside : SomeOutside n a b c → ConferenceIs (three_refusal 0 n a b c) ps a b c (conference_of (Err NoCard))
+  says_outside o = record { number = sym (some_outside 0 n a b c refl o); found = refl; card = refl }
 
-    -- AS READING answers: the number is the plan's
-    pub read_refusal : ReadSays ps r → refusal ≡ conference_refusal ps a b c
-    unfolding conference_refusal
-    read_refusal s = rw s.number refl
-
-    -- AS THE CODE goes on from the sizes
-    module _ (known : r.number ≡ 0 → LaidOut ps r × Measured ps) (x : ℕ) (f : x ≡ three_refusal r.number r.cards a b c) where
-      refusal_counted : x ≡ refusal
-      refusal_counted =
-          by_eq r.number 0
-          (λ e. f ∙ ap (λ (k : ℕ). three_refusal r.number k a b c) (known e).0.cards)
-          (λ d. f ∙ refused_before r.number r.cards a b c d ∙ sym (refused_before r.number n a b c d))
-
-      pub says_refused : (q : Conference) → x ≢ 0 → q ≡ no_card x → ConferenceIs refusal ps a b c q
-      says_refused q d e = no_card_is refusal x q e refusal_counted (λ z. absurd (d z))
-
-      module _ (e : x ≡ 0) where
-        inside : (r.number ≡ 0) × (a < n) × (b < n) × (c < n)
-        inside = clear_inside r.number n a b c (sym refusal_counted ∙ e)
-
-        pub laid_out : LaidOut ps r
-        laid_out = (known inside.0).0
-
-        pub measured : Measured ps
-        measured = (known inside.0).1
-
-        pub cards_inside : (a < r.cards) × (b < r.cards) × (c < r.cards)
-        cards_inside = rw laid_out.cards (inside.1, inside.2, inside.3)
-
-        -- the search ended at y
-        module _ (y : ℕ) (is : y ≡ conference (plan_wiring ps) a b c) where
-          pub says_none : (q : Conference) → r.cards ≤ y → q ≡ no_card 0 → ConferenceIs refusal ps a b c q
-          says_none q h g = no_card_is refusal 0 q g (sym e ∙ refusal_counted) (λ z. omega (arith, is, laid_out.cards))
-
-          pub says_found : y < r.cards → ConferenceIs refusal ps a b c (record { number = 0; found = 1; card = y })
-          says_found h =
-              record {
-                number = sym e ∙ refusal_counted;
-                found = rw (lt-ltb (conference (plan_wiring ps) a b c) n (omega (arith, is, laid_out.cards))) refl;
-                card = is;
-              }
+  pub says_lowest : a < n → b < n → c < n → (o : Option ℕ)
+      → MatchOption o (n ≤ conference (plan_wiring ps) a b c) (λ x. (x < n) × (x ≡ conference (plan_wiring ps) a b c))
+      → ConferenceIs (three_refusal 0 n a b c) ps a b c (conference_of (Ok o))
+  says_lowest ha hb hc None h =
+      record { number = sym (all_inside 0 n a b c refl ha hb hc); found = rw (le-ltb (conference (plan_wiring ps) a b c) n h) refl; card = refl }
+  says_lowest ha hb hc (Some x) (h, e) =
+      record {
+        number = sym (all_inside 0 n a b c refl ha hb hc);
+        found = rw (lt-ltb (conference (plan_wiring ps) a b c) n (omega (arith, e))) refl;
+        card = e;
+      }

@@ -16,8 +16,7 @@ use Rattle.rack.proofs.Logic.{by_eq}
 use Rattle.rack.proofs.Tables.{lowest_ext}
 use Rattle.rack.proofs.Hops.{hops_sym}
 use Rattle.rack.proofs.WiringFile.{wiring_at_cards}
-use Rattle.conference.specs.Conference.{between, median, conference, three_refusal, conference_refusal, ConferenceSays}
-use Rattle.conference.specs.declared.Conference.{Conference}
+use Rattle.conference.specs.Conference.{between, median, conference, three_refusal, conference_refusal, Conference, ConferenceSays}
 use Rattle.conference.proofs.Answers.{answered_inside}
 
 and_exchange : (x y z : Bool) → (x && y && z) ≡ (x && z && y)

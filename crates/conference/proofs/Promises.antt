@@ -21,9 +21,8 @@ use Rattle.reader.proofs.Plan.{plan_refusal_most}
 use Rattle.reader.proofs.Promises.{read_measured}
 use Rattle.reader.proofs.Measured.{plan_embedding, plan_connected}
 use Rattle.conference.specs.Conference.{OnAllThree, between, median, conference, majority}
-use Rattle.conference.specs.Conference.{three_refusal, conference_refusal, ConferenceIs, CardOrNone}
+use Rattle.conference.specs.Conference.{Conference, three_refusal, conference_refusal, ConferenceIs, CardOrNone}
 use Rattle.conference.specs.Promises.{BetweenMeans, ConferencePromise, ConferenceRefused, ConferenceOrder, ConferenceRepeated}
-use Rattle.conference.specs.declared.Conference.{Conference}
 use Rattle.conference.proofs.Answers.{SomeOutside, refused_before, some_outside, all_inside, inside_or_outside, clear_inside, answered_inside}
 use Rattle.conference.proofs.Medians.{median_tests, tests_median, median_bits, median_once}
 use Rattle.conference.proofs.Order.{first_two_exchanged, last_two_exchanged}

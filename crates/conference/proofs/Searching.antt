@@ -1,5 +1,6 @@
--- The search for the lowest median: the test of a card by differing places, and the cards before it. Assumes nothing.
-use mathlib.Core.Path.{◌≡◌, refl, sym, ◌∙◌}
+-- The search for the lowest median: the test of a card by differing places, and the lowest that passes. Assumes nothing.
+use Rattle.std.specs.Prelude.{Option, None, Some, MatchOption}
+use mathlib.Core.Path.{◌≡◌, refl, sym, ap, ◌∙◌}
 use mathlib.Core.Bool.{Bool, true, false, ◌&&◌, and-false}
 use mathlib.Core.Logic.{◌≢◌}
 use mathlib.Core.List.{List}
@@ -7,80 +8,65 @@ use Prim.Native.Nat.{ℕ, ◌+◌, ◌≤◌, ◌<◌}
 use native.Mathlib.Omega.{arith}
 use lib.Dec.{eqb}
 use borrow.Author.Tests.{eq-eqb, ne_eqb}
-use Rattle.rack.specs.Limits.{most_columns}
-use Rattle.rack.specs.PlanFile.{plan_wiring, plan_hamming}
+use Rattle.rack.specs.PlanFile.{plan_cards, plan_wiring, plan_hamming, Sized}
 use Rattle.rack.proofs.Hops.{hops_sym}
-use Rattle.rack.proofs.Tables.{lowest_is}
+use Rattle.rack.specs.Lists.{lowest, FoundBelow}
+use Rattle.rack.specs.Wiring.{Wiring}
+use Rattle.rack.proofs.Searches.{found_lowest}
 use Rattle.rack.proofs.WiringFile.{wiring_at_cards}
-use Rattle.reader.specs.Promises.{Measured}
-use Rattle.reader.specs.Reading.{LaidOut}
-use Rattle.reader.specs.declared.layout.Sizes.{Sizes}
-use Rattle.reader.proofs.Addresses.{hamming_columns}
 use Rattle.conference.specs.Conference.{between, median, conference}
 use Rattle.conference.specs.Callers.{CallersAre}
-use Rattle.conference.specs.declared.Callers.{Callers}
 
--- none of the cards before x is a median
-abbrev pub NoneBefore : List ℕ → (a b c x : ℕ) → Type 0
-NoneBefore ps a b c x = (j : ℕ) → j < x → median (plan_wiring ps) a b c j ≡ false
-
-module _ (ps : List ℕ) (r : Sizes) (l : LaidOut ps r) where
-  pub places_few : (a b : ℕ) → plan_hamming ps a b ≤ most_columns
-  places_few a b = omega (arith, hamming_columns ps a b, l.columns, l.few_columns)
-
+module _ (ps : List ℕ) {n m k : ℕ} (l : Sized ps n m k) where
   -- THE TEST of card x, from the counts as they are made
-  module _ (s : Callers) (z : CallersAre ps s) (x : ℕ) (h : x < r.cards) where
+  module _ {a b c ab ac bc : ℕ} (z : CallersAre ps a b c ab ac bc) (x : ℕ) (h : x < n) where
     abbrev tested : Bool
-    tested = median (plan_wiring ps) s.a s.b s.c x
+    tested = median (plan_wiring ps) a b c x
 
-    module _ (from_a to_b to_c : ℕ) (e : from_a ≡ plan_hamming ps s.a x) (f : to_b ≡ plan_hamming ps x s.b)
-        (g : to_c ≡ plan_hamming ps x s.c) where
-      tested_counted : tested ≡ (eqb (from_a + to_b) s.ab && eqb (from_a + to_c) s.ac && eqb (to_b + to_c) s.bc)
+    module _ (from_a to_b to_c : ℕ) (e : from_a ≡ plan_hamming ps a x) (f : to_b ≡ plan_hamming ps x b)
+        (g : to_c ≡ plan_hamming ps x c) where
+      tested_counted : tested ≡ (eqb (from_a + to_b) ab && eqb (from_a + to_c) ac && eqb (to_b + to_c) bc)
       unfolding median between
       tested_counted =
-          let n = wiring_at_cards 6 ps in
+          let cards = wiring_at_cards 6 ps in
           rw (
-            e ∙ z.read.measured s.a x z.first (omega (arith, l.cards)),
-            f ∙ z.read.measured x s.b (omega (arith, l.cards)) z.second,
-            g ∙ z.read.measured x s.c (omega (arith, l.cards)) z.third,
-            hops_sym (plan_wiring ps) s.b x (omega (arith, z.second)) (omega (arith, l.cards)),
+            e ∙ z.read.measured a x z.first (omega (arith, l.cards)),
+            f ∙ z.read.measured x b (omega (arith, l.cards)) z.second,
+            g ∙ z.read.measured x c (omega (arith, l.cards)) z.third,
+            hops_sym (plan_wiring ps) b x (omega (arith, z.second)) (omega (arith, l.cards)),
             z.first_second,
             z.first_third,
             z.second_third,
           ) refl
 
-      pub not_first_second : from_a + to_b ≢ s.ab → false ≡ tested
-      not_first_second n = sym (tested_counted ∙ rw (ne_eqb (from_a + to_b) s.ab n) refl)
+      pub not_first_second : from_a + to_b ≢ ab → false ≡ tested
+      not_first_second n = sym (tested_counted ∙ rw (ne_eqb (from_a + to_b) ab n) refl)
 
-      pub not_first_third : from_a + to_c ≢ s.ac → false ≡ tested
-      not_first_third n = sym (tested_counted ∙ rw (ne_eqb (from_a + to_c) s.ac n, and-false (eqb (from_a + to_b) s.ab)) refl)
+      pub not_first_third : from_a + to_c ≢ ac → false ≡ tested
+      not_first_third n = sym (tested_counted ∙ rw (ne_eqb (from_a + to_c) ac n, and-false (eqb (from_a + to_b) ab)) refl)
 
-      pub if_second_third : from_a + to_b ≡ s.ab → from_a + to_c ≡ s.ac → eqb (to_b + to_c) s.bc ≡ tested
-      if_second_third i j = sym (tested_counted ∙ rw (eq-eqb (from_a + to_b) s.ab i, eq-eqb (from_a + to_c) s.ac j) refl)
+      pub if_second_third : from_a + to_b ≡ ab → from_a + to_c ≡ ac → eqb (to_b + to_c) bc ≡ tested
+      if_second_third i j = sym (tested_counted ∙ rw (eq-eqb (from_a + to_b) ab i, eq-eqb (from_a + to_c) ac j) refl)
 
   module _ (a b c : ℕ) where
-    -- the three cards with their hops
-    pub callers_are : (ab ac bc : ℕ) → Measured ps → a < r.cards → b < r.cards → c < r.cards
-        → ab ≡ plan_hamming ps a b → ac ≡ plan_hamming ps a c → bc ≡ plan_hamming ps b c
-        → CallersAre ps (record { a = a; b = b; c = c; ab = ab; ac = ac; bc = bc })
-    callers_are ab ac bc m ha hb hc e f g =
-        let first = rw l.cards at ha in
-        let second = rw l.cards at hb in
-        let third = rw l.cards at hc in
-        record {
-          read = m;
-          first = first;
-          second = second;
-          third = third;
-          first_second = e ∙ m.measured a b first second;
-          first_third = f ∙ m.measured a c first third;
-          second_third = g ∙ m.measured b c second third;
-        }
-
-    -- THE LOOP over the cards: where it ends, with a median or behind the last card, none of those passed is one
-    pub search_ended : (x : ℕ) → x ≤ r.cards → NoneBefore ps a b c x → (x < r.cards → median (plan_wiring ps) a b c x ≡ true)
-        → x ≡ conference (plan_wiring ps) a b c
+    -- THE SEARCH over the cards gives the lowest that passes, or none
+    found_card : (o : Option ℕ) → FoundBelow n (lowest n (median (plan_wiring ps) a b c)) o
+        → MatchOption o (plan_cards ps ≤ conference (plan_wiring ps) a b c) (λ x. (x < plan_cards ps) × (x ≡ conference (plan_wiring ps) a b c))
     unfolding conference
-    search_ended x h none e =
-        let n = wiring_at_cards 6 ps in
-        sym (lowest_is (plan_wiring ps).cards (median (plan_wiring ps) a b c) x (omega (arith, l.cards)) none (λ i. e (omega (arith, l.cards))))
+    found_card o f = matched o f
+      where
+        w : Wiring
+        w = plan_wiring ps
+
+        same : lowest w.cards (median w a b c) ≡ lowest n (median w a b c)
+        same = ap (λ (i : ℕ). lowest i (median w a b c)) (wiring_at_cards 6 ps ∙ sym l.cards)
+
+        matched : (o : Option ℕ) → FoundBelow n (lowest n (median w a b c)) o → MatchOption o (plan_cards ps ≤ lowest w.cards (median w a b c)) (λ x. (x < plan_cards ps) × (x ≡ lowest w.cards (median w a b c)))
+        matched None e = omega (arith, e, same, l.cards)
+        matched (Some x) e = (omega (arith, e.1, l.cards), e.0 ∙ sym same)
+
+    pub lowest_found : (o : Option ℕ)
+        → MatchOption o ((j : ℕ) → 0 ≤ j → j < n → median (plan_wiring ps) a b c j ≡ false)
+        (λ x. (0 ≤ x) × (x < n) × (median (plan_wiring ps) a b c x ≡ true) × ((j : ℕ) → 0 ≤ j → j < x → median (plan_wiring ps) a b c j ≡ false))
+        → MatchOption o (plan_cards ps ≤ conference (plan_wiring ps) a b c) (λ x. (x < plan_cards ps) × (x ≡ conference (plan_wiring ps) a b c))
+    lowest_found o h = found_card o (found_lowest 0 n (median (plan_wiring ps) a b c) o (omega arith) (λ j k. absurd (omega arith)) h)

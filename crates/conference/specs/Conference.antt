@@ -1,12 +1,13 @@
 -- Conference cards: on a shortest path between each two of three cards, a median of three nodes. Assumes nothing: these are definitions.
 -- Quotations: docs/REQUIREMENTS.md.
-use Rattle.std.specs.Prelude.{◌≡◌, Bool, true, ◌&&◌, ◌||◌, cond, List, ◌∷◌, ◌⊎◌, ◌↔◌, ℕ, ◌+◌, ◌<◌, ltb, leb, eqb, length}
+use Rattle.std.specs.Prelude.{◌≡◌, Bool, true, ◌&&◌, ◌||◌, cond, List, ◌∷◌, ◌⊎◌, ◌↔◌, ℕ, ◌+◌, ◌<◌, ltb, leb, eqb, length, Option, None, Some, unwrap_or, Result, Ok, Err}
 use Rattle.rack.specs.Lists.{differ, one, any, lowest}
 use Rattle.rack.specs.Wiring.{Wiring}
 use Rattle.rack.specs.Hops.{hops, is_path}
 use Rattle.rack.specs.PlanFile.{plan_cards, plan_columns, plan_wiring, plan_bit}
+use Rattle.rack.specs.Refused.{refusal_of}
+use Rattle.rack.specs.declared.refused.Refused.{Refused}
 use Rattle.reader.specs.Plan.{plan_refusal}
-use Rattle.conference.specs.declared.Conference.{Conference}
 
 -- "lies on a shortest way between" a and b: some path of the fewest links has card x on it
 abbrev pub OnShortest : Wiring → (a x b : ℕ) → Type 0
@@ -38,6 +39,21 @@ three_refusal x n a b c = cond (eqb x 0) (cond (leb n a || leb n b || leb n c) 1
 -- 12, 13, 14
 unfoldable pub conference_refusal : List ℕ → (a b c : ℕ) → ℕ
 conference_refusal ps a b c = three_refusal (plan_refusal ps) (plan_cards ps) a b c
+
+-- a refusal's number, 0 for none; 1 and the card, or 0 and 0 where there is none
+pub record Conference : Type 0 where
+  pub number : ℕ
+  pub found : ℕ
+  pub card : ℕ
+
+-- what a call answers that gives a card or none
+abbrev pub found_of : Option ℕ → ℕ
+found_of None = 0
+found_of (Some x) = 1
+
+abbrev pub conference_of : Result (Option ℕ) Refused → Conference
+conference_of (Ok o) = record { number = 0; found = found_of o; card = unwrap_or o 0 }
+conference_of (Err e) = record { number = (refusal_of e).number; found = 0; card = 0 }
 
 -- 1 and the card, or 0 and 0 for "none"; zeros with a refusal
 pub record ConferenceIs (refused : ℕ) (ps : List ℕ) (a b c : ℕ) (r : Conference) : Type 0 where

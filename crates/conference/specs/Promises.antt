@@ -4,8 +4,7 @@ use Rattle.rack.specs.Wiring.{Wiring}
 use Rattle.rack.specs.Hops.{connected}
 use Rattle.rack.specs.PlanFile.{plan_cards}
 use Rattle.reader.specs.Plan.{plan_refusal}
-use Rattle.conference.specs.Conference.{OnShortest, between, conference_refusal, ConferenceSays, CardOrNone}
-use Rattle.conference.specs.declared.Conference.{Conference}
+use Rattle.conference.specs.Conference.{OnShortest, between, Conference, conference_refusal, ConferenceSays, CardOrNone}
 
 -- what the test by sums of hops means: x lies on a shortest path between a and b
 unfoldable pub BetweenMeans : Type 0

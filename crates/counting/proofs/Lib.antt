@@ -1,3 +1,4 @@
 pub mod TableRule
+pub mod Searching
 pub mod Bytes
 pub mod Promises

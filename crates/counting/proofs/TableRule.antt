@@ -2,7 +2,8 @@
 use mathlib.Core.Path.{◌≡◌, refl, sym, ap, ◌∙◌}
 use mathlib.Core.Bool.{Bool, true}
 use mathlib.Core.List.{List}
-use Prim.Native.Nat.{ℕ, zero, suc, ◌+◌, ◌/◌, ◌%◌, ◌^◌, ◌≤◌, ◌<◌}
+use Prim.Native.Nat.{ℕ, zero, suc, ◌+◌, ◌*◌, ◌/◌, ◌%◌, ◌^◌, ◌≤◌, ◌<◌}
+use Rattle.std.specs.Int.{w64, to_le_bytes}
 use native.Mathlib.Omega.{arith}
 use lib.Bits.{bit_xor, xor_lt, xor_mod, xor_shr}
 use lib.Dec.{eqb}
@@ -45,6 +46,23 @@ ones_byte z n =
     ∙ ap (λ (x : ℕ). count (number_bit z) (range n) + x)
     (count_ext (λ i. number_bit z (n + i)) (number_bit (z / 2 ^ n % 256)) (range 8)
     (λ i m. sym (number_bit_low (z / 2 ^ n) 8 i (range_in 8 i m) ∙ number_bit_high z n i)))
+
+-- and that byte, among the eight of a word
+le_byte : (z i : ℕ) → i < 8 → get_or (to_le_bytes w64 z) i 0 ≡ z / 2 ^ (8 * i) % 256
+le_byte z zero h = omega arith
+le_byte z (suc zero) h = refl
+le_byte z (suc (suc zero)) h = refl
+le_byte z (suc (suc (suc zero))) h = refl
+le_byte z (suc (suc (suc (suc zero)))) h = refl
+le_byte z (suc (suc (suc (suc (suc zero))))) h = refl
+le_byte z (suc (suc (suc (suc (suc (suc zero)))))) h = refl
+le_byte z (suc (suc (suc (suc (suc (suc (suc zero))))))) h = refl
+le_byte z (suc (suc (suc (suc (suc (suc (suc (suc i)))))))) h = absurd (omega arith)
+
+pub ones_le_byte : (z i : ℕ) → i < 8 → ones_in (8 * (i + 1)) z ≡ ones_in (8 * i) z + ones_in 8 (get_or (to_le_bytes w64 z) i 0)
+ones_le_byte z i h =
+    let e : 8 * (i + 1) ≡ 8 * i + 8 = omega arith in
+    rw (e, le_byte z i h) (ones_byte z (8 * i))
 
 pub ones_none : (z : ℕ) → ones_in 0 z ≡ 0
 unfolding ones_in

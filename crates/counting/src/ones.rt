@@ -1,6 +1,6 @@
 // The table of the ones in each byte; every sixteenth entry has its place beside it.
-ghost use Rattle.std.specs.Prelude.{◌≡◌, true};
 ghost use Rattle.counting.specs.Ones.{Counts, table_holds};
+ghost use Rattle.std.specs.Prelude.{◌≡◌, true};
 
 const ONES: [u8; 256] = [
     0, // 0
@@ -22,10 +22,30 @@ const ONES: [u8; 256] = [
     5, 5, 6, 5, 6, 6, 7, 5, 6, 6, 7, 6, 7, 7, 8,
 ];
 
-// The table as a value, to be lent: a constant that is indexed by a variable is copied at each use.
-pub fn ones_table() -> [u8; 256]
-    ensures tested { table_holds result ≡ true }
-    ensures counts { Counts result }
+// A table of the ones in each byte, to be lent: a constant that is indexed by a variable is copied at each use.
+#[derive(Clone, Copy)]
+pub struct Ones {
+    pub table: [u8; 256],
+    pub ghost counts: { Counts table },
+}
+
+impl Ones {
+    ghost use Rattle.std.specs.Prelude.{◌≡◌, ◌≤◌};
+    ghost use Rattle.counting.specs.Ones.{ones_in};
+
+    // The ones in a byte: its entry in the table.
+    pub fn byte_ones(&self, z: u8) -> u32
+        ensures is { result ≡ ones_in 8 z }
+        ensures few { result ≤ 8 }
+    {
+        u32::from(self.table[usize::from(z)])
+    }
+}
+
+// The table as a value.
+pub fn ones_table() -> Ones
+    ensures tested { table_holds result.table ≡ true }
+    ensures counts { Counts result.table }
 {
-    ONES
+    Ones { table: ONES }
 }

@@ -1,31 +1,28 @@
 -- What the calls answer, from what their parts do: a column or none. Assumes nothing.
 use mathlib.Core.Path.{◌≡◌, refl, sym, ap, ◌∙◌, subst}
 use mathlib.Core.Bool.{true, false, ◌&&◌, not}
-use mathlib.Core.Logic.{◌≢◌}
+use mathlib.Core.Logic.{◌⊎◌, inl, inr, ◌≢◌}
 use mathlib.Core.List.{List}
 use Prim.Native.Nat.{ℕ, ◌≤◌, ◌<◌}
 use native.Mathlib.Omega.{arith}
 use lib.Dec.{ltb, eqb}
 use lib.ListN.{length, get_or}
-use borrow.Author.Tests.{eq-eqb, ne_eqb, lt-ltb, le-ltb}
-use Rattle.rack.proofs.Logic.{by_eq}
+use borrow.Author.Tests.{eq-eqb, ne_eqb, le-ltb, ltb-true}
+use Rattle.std.specs.Prelude.{Option, Some, Ok}
+use Rattle.std.proofs.lemmas.Option.{none-some, same_Some}
+use Rattle.rack.proofs.Logic.{by_bool, by_eq}
 use Rattle.rack.proofs.Refusals.{cond_zero}
-use Rattle.rack.specs.PlanFile.{plan_columns, plan_bit}
-use Rattle.reader.specs.Reading.{LayoutSays, LaidOut}
-use Rattle.reader.specs.declared.layout.Sizes.{Sizes}
-use Rattle.reader.proofs.Reading.{says_laid_out}
-use Rattle.forwarder.specs.Forwarding.{step, walk}
-use Rattle.forwarder.specs.Calls.{lent_met, walk_hops, step_refusal, walk_refusal, StepSays, WalkSays}
-use Rattle.forwarder.specs.declared.step.Stepped.{Stepped}
+use Rattle.rack.specs.PlanFile.{plan_cards, plan_columns, plan_bit}
+use Rattle.reader.specs.Reading.{layout_refusal}
+use Rattle.forwarder.specs.Forwarding.{Step, step_of, step_seen, step, walk}
+use Rattle.forwarder.specs.Calls.{Stepped, Walked, stepped_of, lent_met, walk_hops, step_refusal, walk_refusal, StepSays, WalkSays}
+use Rattle.forwarder.specs.declared.step.Step.{Step as Onward}
+use Rattle.forwarder.specs.declared.step.Step.TheVariants.{Stuck, Arrived}
 use Rattle.forwarder.specs.declared.walk.Tally.{Tally}
-use Rattle.forwarder.specs.declared.walk.Walked.{Walked}
 use Rattle.forwarder.proofs.Frames.{answered_layout, answered_cards}
 use Rattle.forwarder.proofs.Stepping.{step_far_below}
 use Rattle.crossing.specs.Differing.{plan_differing}
-use Rattle.crossing.specs.Crossing.{step_column, walk_column, ColumnOrNone, no_column, DifferingColumn, FrameStepSays, FrameWalkSays}
-use Rattle.crossing.specs.declared.FrameStep.{FrameStep}
-use Rattle.crossing.specs.declared.FrameWalk.{FrameWalk}
-use Rattle.crossing.specs.declared.places.FirstColumn.{FirstColumn}
+use Rattle.crossing.specs.Crossing.{FrameStep, FrameWalk, FirstColumn, step_column, walk_column, ColumnOrNone, no_column, column_of, some_below, DifferingColumn, FrameStepSays, FrameWalkSays}
 use Rattle.crossing.proofs.Differing.{differing_within}
 use Rattle.crossing.proofs.Crossed.{GoesOn, column_over, column_none, walk_first, hops_go_on, no_hops}
 
@@ -37,40 +34,44 @@ module _ (refused j k : ℕ) (r : FirstColumn) where
   column_absent : (refused ≡ 0 → k ≤ j) → r ≡ no_column → ColumnOrNone refused j k r
   column_absent h e = let t = none_crossed h in subst (ColumnOrNone refused j k) (sym e) (record { found = rw t refl; column = rw t refl })
 
-  column_present : refused ≡ 0 → j < k → r.found ≡ 1 → r.column ≡ j → ColumnOrNone refused j k r
-  column_present e l found column =
-      let t = eq-eqb refused 0 e in
-      let u = lt-ltb j k l in
-      record { found = rw (t, u) found; column = rw (t, u) column }
+-- a step that is not over a link
+pub not_over : (s : Onward) → (s ≡ Stuck) ⊎ (s ≡ Arrived) → (step_seen s).outcome ≢ 2
+not_over s (inl e) = λ h. let z = rw e at h in omega arith
+not_over s (inr e) = λ h. let z = rw e at h in omega arith
+
+-- a place that is one of the k
+module _ (k j : ℕ) where
+  below_column : ColumnOrNone 0 j k (column_of (some_below k j))
+  below_column =
+      by_bool (ltb j k)
+      (λ (t : ltb j k ≡ true). rw t (record { found = rw t refl; column = rw t refl }))
+      (λ (t : ltb j k ≡ false). rw t (record { found = rw t refl; column = rw t refl }))
+
+  pub below_some : (i : ℕ) → Some i ≡ some_below k j → i < k
+  below_some i e =
+      by_bool (ltb j k)
+      (λ (t : ltb j k ≡ true). rw (same_Some i j (rw t at e)) (ltb-true j k t))
+      (λ (t : ltb j k ≡ false). absurd (none-some i (sym (rw t at e))))
 
 module _ (ps : List ℕ) (a b : ℕ) where
   pub few_differing : plan_differing ps a b ≤ plan_columns ps
   unfolding plan_differing
   few_differing = differing_within (plan_columns ps) (plan_bit ps a) (plan_bit ps b)
 
-  -- of two addresses: a search that ended at j, of k columns
-  module _ (j k : ℕ) (r : FirstColumn) (at : j ≡ plan_differing ps a b) (columns : k ≡ plan_columns ps) where
-    pub equal_addresses : j ≡ k → r ≡ no_column → DifferingColumn ps a b r
-    equal_addresses e = column_absent 0 (plan_differing ps a b) (plan_columns ps) r (λ _. omega arith)
+  -- of two addresses
+  pub differing_column : (k : ℕ) (r : Option ℕ) → k ≡ plan_columns ps → r ≡ some_below k (plan_differing ps a b) → DifferingColumn ps a b (column_of r)
+  differing_column k r columns e = rw (e, ← columns) (below_column k (plan_differing ps a b))
 
-    pub unlike_addresses : j ≢ k → r.found ≡ 1 → r.column ≡ j → DifferingColumn ps a b r
-    unlike_addresses n found column =
-        column_present 0 (plan_differing ps a b) (plan_columns ps) r refl (omega (arith, few_differing)) found (column ∙ at)
+  -- a step that is answered
+  pub step_answered : (s : Onward) → step_refusal ps a b ≡ 0 → step_seen s ≡ step ps a b → StepSays ps a b (stepped_of (Ok s))
+  step_answered s e f =
+      let t = eq-eqb (step_refusal ps a b) 0 e in
+      record { number = sym e; outcome = rw (t, f) refl; link = rw (t, f) refl; far = rw (t, f) refl }
 
-  -- THE CARDS between which a column is crossed
-  pub record Between (s : Sizes) (c : ℕ) : Type 0 where
-    pub sizes : LaidOut ps s
-    pub from : a < s.cards
-    pub far : c < s.cards
-
-  between : (s : Sizes) (c : ℕ) → LayoutSays ps s → step_refusal ps a b ≡ 0 → (step ps a b).outcome ≡ 2 → c ≡ (step ps a b).far → Between s c
-  between s c says e over far =
-      let z = says_laid_out ps s says (says.number ∙ answered_layout ps a b e) in
-      record {
-        sizes = z;
-        from = omega (arith, z.cards, (answered_cards ps a b e).0);
-        far = omega (arith, z.cards, far, step_far_below ps a b over);
-      }
+  pub far_is_card : (i c : ℕ) → step_of 2 i c ≡ step ps a b → c < plan_cards ps
+  far_is_card i c e =
+      let far = step_far_below ps a b (ap (λ (s : Step). s.outcome) (sym e)) in
+      rw (← e) at far
 
   -- A STEP that is not over a link crosses none, and else what lies between its card and the far card
   module _ (r : Stepped) (s : StepSays ps a b r) where
@@ -85,9 +86,6 @@ module _ (ps : List ℕ) (a b : ℕ) where
 
     pub step_link : step_refusal ps a b ≡ 0 → r.link ≡ (step ps a b).link
     step_link e = rw (eq-eqb (step_refusal ps a b) 0 e) at s.link
-
-    pub step_between_cards : (z : Sizes) → LayoutSays ps z → r.outcome ≡ 2 → Between z r.far
-    step_between_cards z says e = let clear = step_clear e in between z r.far says clear (step_outcome clear ∙ e) (step_far clear)
 
   pub step_crosses_none : (r : FrameStep) → StepSays ps a b r.stepped → r.stepped.outcome ≢ 2 → r.crossed ≡ no_column
       → FrameStepSays ps a b r
@@ -128,14 +126,17 @@ module _ (ps : List ℕ) (a b : ℕ) where
       answered_goes_on n = hops_go_on ps a b (omega (arith, walk_hops_said (walk_clear n)))
 
       -- the second card met
-      pub second_met : r.hops ≢ 0 → (2 ≤ length new) × (get_or new 1 0 ≡ (step ps a b).far)
+      pub second_met : r.hops ≢ 0 → get_or new 1 0 ≡ (step ps a b).far
       second_met n =
           let g = answered_goes_on n in
           let met = rw (walk_answered (walk_clear n), g.met) at s.met in
-          (rw met (omega arith), rw met refl)
+          rw met refl
 
-      pub walk_between_cards : (z : Sizes) → LayoutSays ps z → r.hops ≢ 0 → Between z (get_or new 1 0)
-      walk_between_cards z says n = between z (get_or new 1 0) says (walk_steps (walk_clear n)) (answered_goes_on n).over (second_met n).1
+      -- the plan has a layout, and the first two cards met
+      pub walk_cards : r.hops ≢ 0 → (layout_refusal ps ≡ 0) × (a < plan_cards ps) × (get_or new 1 0 < plan_cards ps)
+      walk_cards n =
+          let e = walk_steps (walk_clear n) in
+          (answered_layout ps a b e, (answered_cards ps a b e).0, rw (second_met n) (step_far_below ps a b (answered_goes_on n).over))
 
     pub walk_crosses_none : (r : FrameWalk) → WalkSays ps a b t r.walked old new → r.walked.hops ≡ 0 → r.crossed ≡ no_column
         → FrameWalkSays ps a b t r old new
@@ -151,5 +152,5 @@ module _ (ps : List ℕ) (a b : ℕ) where
         → DifferingColumn ps a (get_or new 1 0) r.crossed → FrameWalkSays ps a b t r old new
     walk_crosses_column r s n d =
         let first = walk_first ps a b ∙ column_over ps a b (answered_goes_on r.walked s n).over in
-        let column = first ∙ ap (plan_differing ps a) (sym (second_met r.walked s n).1) in
+        let column = first ∙ ap (plan_differing ps a) (sym (second_met r.walked s n)) in
         record { walked = s; crossed = rw (walk_clear r.walked s n, column) d }

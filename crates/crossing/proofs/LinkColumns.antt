@@ -9,7 +9,7 @@ use Rattle.rack.specs.Wiring.{Link, Wiring, link, link_at}
 use Rattle.rack.specs.Columns.{column, same_column, columns, column_count, address}
 use Rattle.rack.specs.Embeddings.{column_of}
 use Rattle.rack.proofs.Logic.{not_true_false, differ_false, differ_sym}
-use Rattle.rack.proofs.Lists.{In, in_getD}
+use Rattle.rack.proofs.Lists.{In, in_get_or}
 use Rattle.rack.proofs.Tables.{lowest_is, tabulate_ext}
 use Rattle.rack.proofs.Columns.{column_of_address, address_zero, same_column_eq, same_column_self}
 use Rattle.rack.proofs.Crossing.{Crossing, crossing_only, link_inside, link_crossing, column_crossing}
@@ -68,7 +68,7 @@ module _ (w : Wiring) (acc : Accepted w) (l : Link) (i : In l w.links) where
 
 pub link_crosses : LinkCrosses
 unfolding LinkCrosses
-link_crosses w i some h l = crosses_link_column w (wiring_accepted w some h) (link_at w i) (in_getD w.links i (link 0 0) l)
+link_crosses w i some h l = crosses_link_column w (wiring_accepted w some h) (link_at w i) (in_get_or w.links i (link 0 0) l)
 
 -- a plan that was read has the planner's columns and addresses
 module _ (ps : List ℕ) (h : plan_refusal ps ≡ 0) where
@@ -86,7 +86,7 @@ unfolding PlanLinkCrosses
 plan_link_crosses ps i h l =
     let w = plan_wiring ps in
     let acc = read_accepted ps h in
-    let m = in_getD w.links i (link 0 0) l in
+    let m = in_get_or w.links i (link 0 0) l in
     let crosses = crosses_link_column w acc (link_at w i) m in
     let ends = link_inside w acc.rack (link_at w i) m in
     record {

@@ -11,7 +11,7 @@ use borrow.Author.Tests.{eqb-true, ltb-true, eq-eqb, lt-ltb}
 use Rattle.rack.specs.Lists.{one}
 use Rattle.rack.specs.Wiring.{Link, link, link_at, other_end}
 use Rattle.rack.proofs.Logic.{by_lt, and_left, and_right}
-use Rattle.rack.proofs.Lists.{in_getD}
+use Rattle.rack.proofs.Lists.{in_get_or}
 use Rattle.rack.proofs.Paths.{Ends, joins_ends, touches_ends, link_linked}
 use Rattle.rack.proofs.Crossing.{hops_one}
 use Rattle.rack.proofs.WiringFile.{wiring_at_cards}
@@ -23,12 +23,9 @@ use Rattle.forwarder.specs.Calls.{step_refusal, walk_refusal}
 use Rattle.forwarder.specs.declared.walk.Tally.{Tally}
 use Rattle.forwarder.proofs.Stepping.{step_two}
 use Rattle.crossing.specs.Differing.{plan_differing, column_number}
-use Rattle.crossing.specs.Crossing.{step_column, walk_column, ColumnOrNone, FrameStepSays, FrameWalkSays}
+use Rattle.crossing.specs.Crossing.{FrameStep, FrameWalk, FirstColumn, step_column, walk_column, ColumnOrNone, FrameStepSays, FrameWalkSays}
 use Rattle.crossing.specs.Promises.{LowestDiffering, CrossesLinkColumn, PlanLinkCrosses, PlacesFound, PlacesNameColumn}
 use Rattle.crossing.specs.Promises.{AnswersCross, StepNamesColumn, WalkNamesColumn}
-use Rattle.crossing.specs.declared.FrameStep.{FrameStep}
-use Rattle.crossing.specs.declared.FrameWalk.{FrameWalk}
-use Rattle.crossing.specs.declared.places.FirstColumn.{FirstColumn}
 use Rattle.crossing.proofs.Differing.{differing_lowest}
 use Rattle.crossing.proofs.Crossed.{column_over, over_crosses, crosses_over, walk_first, over_hops}
 use Rattle.crossing.proofs.Answers.{few_differing, step_clear, step_outcome, step_link, walk_clear, walk_hops_said, answered_goes_on}
@@ -113,7 +110,7 @@ unfolding PlacesNameColumn PlanLinkCrosses
 places_name_column ps a b i r h l t s =
     let w = plan_wiring ps in
     let ends = joins_ends a b (link_at w i) t in
-    let joined = link_linked w a b (link_at w i) (in_getD w.links i (link 0 0) l) ends in
+    let joined = link_linked w a b (link_at w i) (in_get_or w.links i (link 0 0) l) ends in
     let rack = (read_accepted ps h).rack in
     let inside = rack.inside a b joined in
     let hops = (read_measured ps h).measured a b (rw (wiring_at_cards 6 ps) at inside.0) (rw (wiring_at_cards 6 ps) at inside.1) in

@@ -6,17 +6,14 @@ use borrow.Author.Tests.{ne_eqb}
 use Rattle.rack.proofs.Logic.{by_eq}
 use Rattle.rack.specs.PlanFile.{plan_columns, plan_bit}
 use Rattle.forwarder.specs.Forwarding.{Step, step}
-use Rattle.forwarder.specs.Calls.{step_refusal}
+use Rattle.forwarder.specs.Calls.{Stepped, step_refusal}
 use Rattle.forwarder.specs.Promises.{SameAddress, StepLocal, StepCallLocal}
-use Rattle.forwarder.specs.declared.step.Stepped.{Stepped}
 use Rattle.forwarder.proofs.Frames.{answered_cards}
 use Rattle.forwarder.proofs.Promises.{step_local, step_call_local}
 use Rattle.forwarder.proofs.Stepping.{step_two, step_far_below}
 use Rattle.crossing.specs.Differing.{plan_differing}
-use Rattle.crossing.specs.Crossing.{step_column, ColumnOrNone}
+use Rattle.crossing.specs.Crossing.{FrameStep, FirstColumn, step_column, ColumnOrNone}
 use Rattle.crossing.specs.Promises.{StepColumnLocal, FrameStepLocal}
-use Rattle.crossing.specs.declared.FrameStep.{FrameStep}
-use Rattle.crossing.specs.declared.places.FirstColumn.{FirstColumn}
 use Rattle.crossing.proofs.Differing.{differing_ext}
 use Rattle.crossing.proofs.Crossed.{column_over, column_none}
 

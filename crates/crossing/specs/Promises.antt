@@ -12,10 +12,7 @@ use Rattle.forwarder.specs.Calls.{walk_hops}
 use Rattle.forwarder.specs.Promises.{IfAlike, SameAddress, SameIfCard}
 use Rattle.forwarder.specs.declared.walk.Tally.{Tally}
 use Rattle.crossing.specs.Differing.{lowest_differing, plan_differing, column_number}
-use Rattle.crossing.specs.Crossing.{step_column, walk_column, PlacesAre, FrameStepSays, FrameWalkSays}
-use Rattle.crossing.specs.declared.FrameStep.{FrameStep}
-use Rattle.crossing.specs.declared.FrameWalk.{FrameWalk}
-use Rattle.crossing.specs.declared.places.Places.{Places}
+use Rattle.crossing.specs.Crossing.{FrameStep, FrameWalk, Places, step_column, walk_column, PlacesAre, FrameStepSays, FrameWalkSays}
 
 -- "the lowest column that differs, or none where they are equal": k exactly if the two are equal, and j below k exactly if they differ at j
 -- and agree below it

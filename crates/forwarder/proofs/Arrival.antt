@@ -1,28 +1,25 @@
 -- A frame's walk on a plan with a layout is answered, stuck or not, or 15; on a plan that was read it arrives by the fewest links, or is 15.
 -- Assumes nothing.
 use mathlib.Core.Path.{◌≡◌, refl, ap, ap₂, ◌∙◌}
-use mathlib.Core.Bool.{Bool, true, false, ◌&&◌, not, cond}
+use mathlib.Core.Bool.{Bool, true, false, not, cond}
 use mathlib.Core.List.{List, ◌++◌}
 use Prim.Native.Nat.{ℕ, suc, ◌+◌, ◌*◌, ◌-◌, ◌<◌}
 use native.Mathlib.Omega.{arith}
-use lib.Dec.{leb}
 use lib.ListN.{length, replicate}
-use borrow.Author.Tests.{eq-eqb, ne_eqb, leb-true}
-use Rattle.rack.specs.Limits.{most_traffic}
+use borrow.Author.Tests.{eq-eqb, ne_eqb}
 use Rattle.rack.specs.Hops.{hops}
-use Rattle.rack.proofs.Logic.{not_true_false, and_left, and_right}
+use Rattle.rack.proofs.Logic.{not_true_false}
 use Rattle.rack.specs.PlanFile.{plan_cards, plan_wiring}
 use Rattle.reader.specs.Plan.{layout_holds}
 use Rattle.reader.specs.Promises.{Measured}
 use Rattle.reader.specs.Reading.{layout_refusal}
 use Rattle.reader.proofs.Promises.{read_measured}
 use Rattle.forwarder.specs.Forwarding.{walk}
-use Rattle.forwarder.specs.Calls.{lent_met, walk_hops, takes, takes_walk, step_refusal, walk_refusal, WalkSays, Frame, Arrived, Full, CanTake}
+use Rattle.forwarder.specs.Calls.{lent_met, walk_hops, takes_walk, step_refusal, walk_refusal, Walked, WalkSays, Frame, Arrived, Full, CanTake}
 use Rattle.forwarder.specs.Promises.{StuckUncounted, WalkArrives, WalkFull}
 use Rattle.forwarder.specs.declared.walk.Tally.{Tally}
-use Rattle.forwarder.specs.declared.walk.Walked.{Walked}
 use Rattle.forwarder.proofs.Frames.{both_cards}
-use Rattle.forwarder.proofs.Answers.{takes_stuck, takes_fits}
+use Rattle.forwarder.proofs.Answers.{takes_stuck, takes_fits, takes_both}
 use Rattle.forwarder.proofs.Delivery.{Arrives, frame_arrives}
 
 -- none of 1, 12 and 14 applies
@@ -38,7 +35,7 @@ unfolding StuckUncounted
 stuck_uncounted ps a b t r old new s h from goal room stuck =
     let z : r.number ≡ 0 =
     walked_number ps a b t r old new s h from goal room
-    ∙ ap (λ (x : Bool). cond (not x) 15 0) (takes_stuck t (walk ps a b).arrived (walk_hops (walk ps a b)) stuck)
+    ∙ ap (λ (x : Bool). cond (not x) 15 0) (takes_stuck t (walk_hops (walk ps a b)) (walk ps a b).arrived stuck)
     in
     let e = eq-eqb r.number 0 z in
     let none : r.arrived ≡ 0 = rw e at s.arrived ∙ stuck in
@@ -66,7 +63,7 @@ module _ (ps : List ℕ) (a b : ℕ) (t : Tally) (r : Walked) (old new : List �
 
   pub walk_arrived : CanTake t fewest → Arrived ps a b t r new
   walk_arrived (frame, total) =
-      let k : takes_walk t (walk ps a b) ≡ true = takes_fits t (walk ps a b).arrived (walk_hops (walk ps a b)) frame (rw walked_hops total) in
+      let k : takes_walk t (walk ps a b) ≡ true = takes_fits t (walk_hops (walk ps a b)) (walk ps a b).arrived (frame, rw walked_hops total) in
       arrived (rw k at number_is)
     where
       arrived : r.number ≡ 0 → Arrived ps a b t r new
@@ -89,20 +86,14 @@ module _ (ps : List ℕ) (a b : ℕ) (t : Tally) (r : Walked) (old new : List �
             long = d.3;
           }
 
-  -- a frame that arrives is counted, so the counts take it only where both tests pass
-  takes_both : takes_walk t (walk ps a b) ≡ true → CanTake t fewest
-  unfolding takes
-  takes_both e =
-      let frame_test = leb (suc t.frames) most_traffic in
-      let total_test = leb (t.hops + walk_hops (walk ps a b)) most_traffic in
-      let both : (frame_test && total_test) ≡ true = rw (ne_eqb (walk ps a b).arrived 0 (λ z. omega (arith, delivered.0))) at e in (
-        leb-true (suc t.frames) most_traffic (and_left frame_test total_test both),
-        rw walked_hops at (leb-true (t.hops + walk_hops (walk ps a b)) most_traffic (and_right frame_test total_test both)),
-      )
+  counts_take : takes_walk t (walk ps a b) ≡ true → CanTake t fewest
+  counts_take e =
+      let can = takes_both t (walk_hops (walk ps a b)) (walk ps a b).arrived (λ z. omega (arith, delivered.0)) e in
+      (can.0, rw walked_hops at can.1)
 
   pub walk_full : (CanTake t fewest → ⊥) → Full t r old new
   walk_full never =
-      let k : takes_walk t (walk ps a b) ≡ false = not_true_false (takes_walk t (walk ps a b)) (λ e. never (takes_both e)) in
+      let k : takes_walk t (walk ps a b) ≡ false = not_true_false (takes_walk t (walk ps a b)) (λ e. never (counts_take e)) in
       full (rw k at number_is)
     where
       full : r.number ≡ 15 → Full t r old new

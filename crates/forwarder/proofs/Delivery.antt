@@ -10,7 +10,7 @@ use borrow.Author.Tests.{eq-eqb, lt-ltb}
 use Rattle.rack.specs.Wiring.{Link, Wiring, link, link_count, link_at, linked, other_end}
 use Rattle.rack.specs.Hops.{hops, is_path}
 use Rattle.rack.proofs.Logic.{by_eq, and_both}
-use Rattle.rack.proofs.Lists.{In, in_getD, getD_in}
+use Rattle.rack.proofs.Lists.{In, in_get_or, get_or_in}
 use Rattle.rack.proofs.Paths.{Ends, touches_ends, ends_touch, other_end_below, linked_link, link_linked}
 use Rattle.rack.proofs.Hops.{hops_self, hops_zero, hops_triangle, hops_linked, hops_down}
 use Rattle.rack.proofs.WiringFile.{wiring_at_cards}
@@ -38,7 +38,7 @@ module _ (ps : List ℕ) (m : Measured ps) where
       let l = link_at inner (step ps a b).link in
       let ends = touches_ends a l o.nearer.of_a in
       let inside = other_end_below (plan_cards ps) a l o.nearer.first o.nearer.second in
-      let joined = link_linked inner a (other_end a l) l (in_getD inner.links (step ps a b).link (link 0 0) o.inside) ends in
+      let joined = link_linked inner a (other_end a l) l (in_get_or inner.links (step ps a b).link (link 0 0) o.inside) ends in
       rw o.far (
         inside,
         joined,
@@ -72,7 +72,7 @@ module _ (ps : List ℕ) (m : Measured ps) where
     where
       by_link : (c : ℕ) → c < inner.cards → hops inner c b < hops inner a b → (l : Link) × In l inner.links × Ends a c l → (step ps a b).outcome ≡ 2
       by_link c hc less (l, i, ends) =
-          let at = getD_in inner.links (link 0 0) l i in
+          let at = get_or_in inner.links (link 0 0) l i in
           link_step a b c at.0 ha hb (omega (arith, same_cards)) at.1 (rw at.2 ends) less
 
       go : (c : ℕ) × (c < inner.cards) × (linked inner a c ≡ true) × (hops inner c b ≡ hops inner a b - 1) → hops inner a b ≢ 0 → (step ps a b).outcome ≡ 2

@@ -1,4 +1,4 @@
--- What refuses a frame: the sizes of its plan and its two cards, and the answer of a step. Assumes nothing.
+-- What refuses a frame: the sizes of its plan and its two cards. Assumes nothing.
 use mathlib.Core.Path.{◌≡◌, refl, sym, ◌∙◌}
 use mathlib.Core.Logic.{◌⊎◌, inl, inr, ◌≢◌}
 use mathlib.Core.List.{List}
@@ -8,13 +8,10 @@ use lib.Dec.{leb}
 use borrow.Author.Tests.{eq-eqb, ne_eqb, le-leb, lt-leb}
 use Rattle.rack.proofs.Logic.{by_eq, by_lt, or_right}
 use Rattle.rack.specs.PlanFile.{plan_cards}
-use Rattle.reader.specs.Reading.{layout_refusal, LayoutSays}
-use Rattle.reader.specs.declared.layout.Sizes.{Sizes}
+use Rattle.reader.specs.Reading.{Sizes, layout_refusal, LayoutSays}
 use Rattle.reader.proofs.Reading.{says_laid_out}
-use Rattle.forwarder.specs.Forwarding.{step}
-use Rattle.forwarder.specs.Calls.{step_refusal, StepIs, StepSays}
-use Rattle.forwarder.specs.Parts.{FrameSizes, NoLink}
-use Rattle.forwarder.specs.declared.step.Stepped.{Stepped}
+use Rattle.forwarder.specs.Calls.{step_refusal}
+use Rattle.forwarder.specs.Parts.{FrameSizes}
 
 module _ (ps : List ℕ) (a b : ℕ) where
   -- 12 AND 14
@@ -73,14 +70,3 @@ module _ (ps : List ℕ) (a b : ℕ) where
           from = λ g. h;
           goal = λ g. k;
         }
-
-  -- THE ANSWER of a step
-  pub step_refused : (x : ℕ) (r : Stepped) → x ≡ step_refusal ps a b → x ≢ 0 → NoLink x 0 r → StepSays ps a b r
-  step_refused x r e n f =
-      let t = ne_eqb (step_refusal ps a b) 0 (λ z. n (e ∙ z)) in
-      record { number = f.number ∙ e; outcome = rw t f.outcome; link = rw t f.link; far = rw t f.far }
-
-  pub step_answered : (r : Stepped) → step_refusal ps a b ≡ 0 → StepIs (step ps a b) r → StepSays ps a b r
-  step_answered r e s =
-      let t = eq-eqb (step_refusal ps a b) 0 e in
-      record { number = s.number ∙ sym e; outcome = rw t s.outcome; link = rw t s.link; far = rw t s.far }

@@ -5,7 +5,6 @@ pub mod Frames
 pub mod Walking
 pub mod Routes
 pub mod Answers
-pub mod Copies
 pub mod Delivery
 pub mod Arrival
 pub mod Promises

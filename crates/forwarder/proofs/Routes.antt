@@ -4,15 +4,19 @@ use mathlib.Core.Logic.{◌≢◌}
 use mathlib.Core.List.{List, [], ◌∷◌, ◌++◌}
 use Prim.Native.Nat.{ℕ, suc, ◌+◌, ◌-◌, ◌≤◌, ◌<◌}
 use native.Mathlib.Omega.{arith}
-use lib.ListN.{length, set, replicate, length-append, length-replicate}
+use lib.ListN.{length, set, replicate, length-append}
 use lib.Seq.{append_snoc, set_at}
+use mathlib.Core.Bool.{Bool, true, false}
+use Rattle.rack.specs.Lists.{one}
 use Rattle.rack.specs.PlanFile.{plan_cards, plan_columns, plan_hamming}
 use Rattle.reader.proofs.Addresses.{hamming_columns}
-use Rattle.forwarder.specs.Forwarding.{Walk, step, walk_from, walk}
-use Rattle.forwarder.specs.Calls.{StepIs, walk_hops}
+use Rattle.std.specs.Prelude.{IsTrue, ◌↔◌}
+use Rattle.forwarder.specs.Forwarding.{Step, Walk, step, step_seen, walk_from, walk}
+use Rattle.forwarder.specs.declared.step.Step.{Step as Onward}
+use Rattle.forwarder.specs.declared.step.Step.TheVariants.{Stuck, Arrived, Over}
+use Rattle.forwarder.specs.Calls.{walk_hops}
 use Rattle.forwarder.specs.Parts.{RouteIs}
-use Rattle.forwarder.specs.declared.step.Stepped.{Stepped}
-use Rattle.forwarder.proofs.Stepping.{step_less, step_far_below, step_outcome_le}
+use Rattle.forwarder.proofs.Stepping.{step_less, step_far_below}
 use Rattle.forwarder.proofs.Walking.{walk_ended, after, walk_goes_on}
 
 -- the whole walk is what is still to be walked, behind the cards left
@@ -20,11 +24,11 @@ abbrev Behind : (cs : List ℕ) → (rest whole : Walk) → Type 0
 Behind cs v w = (w.arrived ≡ v.arrived) × (w.met ≡ cs ++ v.met)
 
 -- at a card after so many steps: the step from it, the cards left before it, the steps that may follow
-pub record OnTheWay (ps : List ℕ) (a b : ℕ) (written : List ℕ) (taken : ℕ) (s : Stepped) : Type 0 where
+pub record OnTheWay (ps : List ℕ) (a b : ℕ) (written : List ℕ) (taken : ℕ) (s : Step) : Type 0 where
   pub card : ℕ
   pub cards : List ℕ
   pub more : ℕ
-  pub next : StepIs (step ps card b) s
+  pub next : s ≡ step ps card b
   pub enough : plan_hamming ps card b ≤ more
   pub steps : more + taken ≡ plan_columns ps
   pub long : length cards ≡ taken
@@ -32,7 +36,7 @@ pub record OnTheWay (ps : List ℕ) (a b : ℕ) (written : List ℕ) (taken : �
   pub met : written ≡ (cards ++ (card ∷ [])) ++ replicate (255 - taken) 0
 
 module _ (ps : List ℕ) (a b : ℕ) where
-  pub walk_begins : (s : Stepped) → StepIs (step ps a b) s → OnTheWay ps a b (a ∷ replicate 255 0) 0 s
+  pub walk_begins : (s : Step) → s ≡ step ps a b → OnTheWay ps a b (a ∷ replicate 255 0) 0 s
   unfolding walk
   walk_begins s e =
       record {
@@ -47,24 +51,27 @@ module _ (ps : List ℕ) (a b : ℕ) where
         met = refl;
       }
 
-  module _ (written : List ℕ) (taken : ℕ) (s : Stepped) (z : OnTheWay ps a b written taken s) where
-    pub few_steps : taken ≤ plan_columns ps
-    few_steps = omega (arith, z.steps)
+  module _ (written : List ℕ) (taken : ℕ) (s : Step) (z : OnTheWay ps a b written taken s) where
+    outcome : s.outcome ≡ (step ps z.card b).outcome
+    outcome = ap (λ (x : Step). x.outcome) z.next
+
+    far : s.far ≡ (step ps z.card b).far
+    far = ap (λ (x : Step). x.far) z.next
 
     over : s.outcome ≡ 2 → (step ps z.card b).outcome ≡ 2
-    over h = sym z.next.outcome ∙ h
+    over h = sym outcome ∙ h
 
     far_less : s.outcome ≡ 2 → plan_hamming ps s.far b < plan_hamming ps z.card b
-    far_less h = rw z.next.far (step_less ps z.card b (over h))
+    far_less h = rw far (step_less ps z.card b (over h))
 
     pub room_left : s.outcome ≡ 2 → taken < plan_columns ps
     room_left h = omega (arith, far_less h, z.enough, z.steps)
 
     pub far_is_card : s.outcome ≡ 2 → s.far < plan_cards ps
-    far_is_card h = rw z.next.far (step_far_below ps z.card b (over h))
+    far_is_card h = rw far (step_far_below ps z.card b (over h))
 
     -- a step over a link, and the card that it leads to is written
-    pub walk_steps : s.outcome ≡ 2 → plan_columns ps ≤ 255 → (r : Stepped) → StepIs (step ps s.far b) r
+    pub walk_steps : s.outcome ≡ 2 → plan_columns ps ≤ 255 → (r : Step) → r ≡ step ps s.far b
         → OnTheWay ps a b (set written (taken + 1) s.far) (taken + 1) r
     walk_steps h few r e =
         record {
@@ -87,7 +94,7 @@ module _ (ps : List ℕ) (a b : ℕ) where
             let m : z.more ≡ suc (z.more - 1) = omega (arith, far_less h, z.enough) in
             let v : Behind z.cards (after ps z.card b (walk_from z.more ps (step ps z.card b).far b)) (walk ps a b) = rw
             (walk_goes_on ps z.more z.card b (over h)) at z.rest in
-            subst (λ (x : Walk). Behind (z.cards ++ (z.card ∷ [])) x (walk ps a b)) (ap₂ (λ (x y : ℕ). walk_from x ps y b) m (sym z.next.far))
+            subst (λ (x : Walk). Behind (z.cards ++ (z.card ∷ [])) x (walk ps a b)) (ap₂ (λ (x y : ℕ). walk_from x ps y b) m (sym far))
             (v.0, v.1 ∙ sym (append_snoc z.cards z.card (walk_from z.more ps (step ps z.card b).far b).met))
 
         stored : set written (taken + 1) s.far ≡ ((z.cards ++ (z.card ∷ [])) ++ (s.far ∷ [])) ++ replicate (255 - (taken + 1)) 0
@@ -99,16 +106,23 @@ module _ (ps : List ℕ) (a b : ℕ) where
             ∙ sym (append_snoc p s.far (replicate (255 - (taken + 1)) 0))
 
     -- arrived or stuck
-    pub walk_stops : s.outcome ≢ 2 → plan_columns ps ≤ 255 → RouteIs (walk ps a b) (record { arrived = s.outcome; hops = taken; met = written })
+    pub walk_stops : (arrived : Bool) → one arrived ≡ s.outcome → s.outcome ≢ 2 → plan_columns ps ≤ 255
+        → RouteIs (walk ps a b) (record { arrived = arrived; hops = taken }) written
     unfolding walk_hops
-    walk_stops n few =
-        let v = rw (walk_ended ps z.more z.card b (λ e. n (z.next.outcome ∙ e))) at z.rest in
+    walk_stops arrived e n few =
+        let v = rw (walk_ended ps z.more z.card b (λ h. n (outcome ∙ h))) at z.rest in
         let l : length (walk ps a b).met ≡ taken + 1 = ap length v.1 ∙ simp length-append (omega (arith, z.long)) in
         let f : 256 - length (walk ps a b).met ≡ 255 - taken = omega arith in
         record {
-          arrived = z.next.outcome ∙ sym v.0;
-          ended = omega (arith, z.next.outcome, step_outcome_le ps z.card b);
+          arrived = e ∙ outcome ∙ sym v.0;
           hops = omega arith;
-          room = ap length z.met ∙ simp (length-append, length-replicate) (omega (arith, z.long, few_steps));
           met = z.met ∙ ap₂ (λ (x : List ℕ) (y : ℕ). x ++ replicate y 0) (sym v.1) (sym f);
         }
+
+-- a step that is not over a link has arrived or is stuck
+pub ended_step : (s : Onward) (t : Bool) → (IsTrue t ↔ (s ≡ Arrived)) → ((i c : ℕ) → s ≢ Over i c)
+    → (one t ≡ (step_seen s).outcome) × ((step_seen s).outcome ≢ 2)
+ended_step Stuck true e n = absurd (let z = ap (λ (s : Onward). (step_seen s).outcome) (e.0 refl) in omega arith)
+ended_step Stuck false e n = (refl, λ h. omega arith)
+ended_step Arrived t e n = rw (e.1 refl) (refl, λ h. omega arith)
+ended_step (Over i c) t e n = absurd (n i c refl)

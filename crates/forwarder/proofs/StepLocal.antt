@@ -19,8 +19,7 @@ use Rattle.reader.specs.Plan.{layout_holds}
 use Rattle.reader.specs.Reading.{layout_refusal}
 use Rattle.forwarder.specs.Forwarding.{Step, step_of, leads_nearer, step}
 use Rattle.forwarder.specs.Promises.{LinkOf, StepLocal, StepCallLocal}
-use Rattle.forwarder.specs.Calls.{step_refusal}
-use Rattle.forwarder.specs.declared.step.Stepped.{Stepped}
+use Rattle.forwarder.specs.Calls.{Stepped, step_refusal}
 use Rattle.forwarder.proofs.Frames.{answered_cards}
 use Rattle.forwarder.proofs.Stepping.{nearer_facts, next_link, step_here, step_over, step_stuck}
 

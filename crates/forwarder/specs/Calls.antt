@@ -1,33 +1,53 @@
 -- What a step and a walk answer and leave behind: 1, 12, 14, 15. Assumes nothing: these are definitions.
-use Rattle.std.specs.Prelude.{◌≡◌, Bool, true, ◌&&◌, ◌||◌, not, cond, List, ◌∷◌, ◌++◌, ℕ, suc, ◌+◌, ◌*◌, ◌-◌, ◌≤◌, ◌<◌, leb, eqb, length, replicate}
+use Rattle.std.specs.Prelude.{◌≡◌, Bool, true, ◌&&◌, ◌||◌, not, cond, List, ◌∷◌, ◌++◌, ℕ, suc, ◌+◌, ◌*◌, ◌-◌, ◌≤◌, ◌<◌, leb, eqb, length, replicate, Result, Ok, Err}
 use Rattle.rack.specs.Limits.{most_traffic}
+use Rattle.rack.specs.Lists.{one}
+use Rattle.rack.specs.Refused.{refusal_of}
+use Rattle.rack.specs.declared.refused.Refused.{Refused}
 use Rattle.rack.specs.Hops.{hops, is_path}
 use Rattle.rack.specs.PlanFile.{plan_cards, plan_wiring}
 use Rattle.reader.specs.Plan.{plan_refusal}
 use Rattle.reader.specs.Reading.{layout_refusal}
-use Rattle.forwarder.specs.Forwarding.{Step, step, Walk, walk}
-use Rattle.forwarder.specs.declared.step.Stepped.{Stepped}
+use Rattle.forwarder.specs.Forwarding.{step, step_seen, Walk, walk}
+use Rattle.forwarder.specs.declared.step.Step.{Step as Onward}
 use Rattle.forwarder.specs.declared.walk.Tally.{Tally}
-use Rattle.forwarder.specs.declared.walk.Walked.{Walked}
+use Rattle.forwarder.specs.declared.walk.Walked.{Walked as Answered}
 
 -- 12, then 14: a card number is n or more
 unfoldable pub step_refusal : List ℕ → (a b : ℕ) → ℕ
 step_refusal ps a b =
     cond (eqb (layout_refusal ps) 0) (cond (leb (plan_cards ps) a || leb (plan_cards ps) b) 14 0) (layout_refusal ps)
 
--- a step that is not refused
-pub record StepIs (s : Step) (r : Stepped) : Type 0 where
-  pub number : r.number ≡ 0
-  pub outcome : r.outcome ≡ s.outcome
-  pub link : r.link ≡ s.link
-  pub far : r.far ≡ s.far
+-- a refusal's number, 0 for none; the outcome: 0 stuck, 1 arrived, 2 over a link to its far card
+pub record Stepped : Type 0 where
+  pub number : ℕ
+  pub outcome : ℕ
+  pub link : ℕ
+  pub far : ℕ
 
--- outcome 0 stuck, 1 arrived, 2 over a link; zeros with a refusal
+-- what a call answers that takes a step
+abbrev pub stepped_of : Result Onward Refused → Stepped
+stepped_of (Ok s) = let t = step_seen s in record { number = 0; outcome = t.outcome; link = t.link; far = t.far }
+stepped_of (Err e) = record { number = (refusal_of e).number; outcome = 0; link = 0; far = 0 }
+
+-- zeros with a refusal
 pub record StepSays (ps : List ℕ) (a b : ℕ) (r : Stepped) : Type 0 where
   pub number : r.number ≡ step_refusal ps a b
   pub outcome : r.outcome ≡ cond (eqb (step_refusal ps a b) 0) (step ps a b).outcome 0
   pub link : r.link ≡ cond (eqb (step_refusal ps a b) 0) (step ps a b).link 0
   pub far : r.far ≡ cond (eqb (step_refusal ps a b) 0) (step ps a b).far 0
+
+-- a refusal's number, 0 for none; 1 for arrived or 0 for stuck, the hops, and the counts handed back
+pub record Walked : Type 0 where
+  pub number : ℕ
+  pub arrived : ℕ
+  pub hops : ℕ
+  pub tally : Tally
+
+-- what a call answers that walks: with a refusal the counts are as they went in
+abbrev pub walked_of : Tally → Result Answered Refused → Walked
+walked_of t (Ok w) = record { number = 0; arrived = one w.arrived; hops = w.hops; tally = w.tally }
+walked_of t (Err e) = record { number = (refusal_of e).number; arrived = 0; hops = 0; tally = t }
 
 -- the lent numbers, one for each card
 abbrev pub lent_met : ℕ

@@ -3,6 +3,8 @@ use Rattle.std.specs.Prelude.{Bool, ◌&&◌, cond, List, [], ◌∷◌, ℕ, ze
 use Rattle.rack.specs.Lists.{lowest}
 use Rattle.rack.specs.Wiring.{Link, link_count, link_at, touches, other_end}
 use Rattle.rack.specs.PlanFile.{plan_cards, plan_columns, plan_wiring, plan_hamming}
+use Rattle.forwarder.specs.declared.step.Step.{Step as Onward}
+use Rattle.forwarder.specs.declared.step.Step.TheVariants.{Stuck, Arrived, Over}
 
 -- greedy forwarding: 0 stuck (a local minimum), 1 arrived, 2 over a link to the card at its far end
 pub record Step : Type 0 where
@@ -12,6 +14,12 @@ pub record Step : Type 0 where
 
 abbrev pub step_of : (outcome link far : ℕ) → Step
 step_of o i c = record { outcome = o; link = i; far = c }
+
+-- what a call answers, as a step
+abbrev pub step_seen : Onward → Step
+step_seen Stuck = step_of 0 0 0
+step_seen Arrived = step_of 1 0 0
+step_seen (Over i c) = step_of 2 i c
 
 -- the link is one of card a's, between cards, and its far address differs from b's in fewer places than a's own does
 unfoldable pub leads_nearer : List ℕ → (a b : ℕ) → Link → Bool

@@ -6,10 +6,8 @@ use Rattle.rack.specs.Hops.{hops, is_path}
 use Rattle.rack.specs.PlanFile.{plan_cards, plan_links, plan_columns, plan_wiring, plan_bit}
 use Rattle.reader.specs.Plan.{layout_holds, plan_refusal}
 use Rattle.forwarder.specs.Forwarding.{step_of, leads_nearer, step, walk}
-use Rattle.forwarder.specs.Calls.{StepSays, lent_met, walk_hops, WalkSays, Arrived, Full}
-use Rattle.forwarder.specs.declared.step.Stepped.{Stepped}
+use Rattle.forwarder.specs.Calls.{Stepped, Walked, StepSays, lent_met, walk_hops, WalkSays, Arrived, Full}
 use Rattle.forwarder.specs.declared.walk.Tally.{Tally}
-use Rattle.forwarder.specs.declared.walk.Walked.{Walked}
 
 -- "It takes the first whose far address differs from b's in fewer places than a's own does": arrived exactly if a = b,
 -- over a link exactly if that link leads nearer and no lower one does, else stuck

@@ -15,12 +15,12 @@ use Rattle.rack.proofs.Logic.{by_eq}
 use Rattle.planner.specs.PlanBytes.{plan_bytes}
 use Rattle.rack.specs.Limits.{lent_plan}
 use Rattle.planner.specs.Planning.{left_in, writing_refusal, WriteSays}
-use Rattle.planner.specs.declared.Answer.{Answer}
+use Rattle.planner.specs.Answer.{Answer}
 use Rattle.planner.proofs.PlanAnswer.{file_not_one, left_untouched, left_filled, left_zero}
 use Rattle.rack.specs.PlanFile.{plan_cards, plan_links, plan_columns}
 use Rattle.reader.specs.Plan.{plan_refusal}
 use Rattle.reader.specs.Reading.{ReadSays}
-use Rattle.reader.specs.declared.layout.Sizes.{Sizes}
+use Rattle.reader.specs.Reading.{Sizes}
 use Rattle.jolvente.specs.Records.{lent_record, record_bytes}
 use Rattle.jolvente.specs.CCalls.{returned, c_write_refusal, CWriteSays, c_read_refusal, CReadSays}
 use Rattle.jolvente.proofs.RecordBytes.{length_record}
@@ -29,7 +29,7 @@ cond_same : {A : Type 0} (t : Bool) (x : A) → cond t x x ≡ x
 cond_same true x = refl
 cond_same false x = refl
 
-record_zero : record_bytes 0 0 0 0 ≡ replicate lent_record 0
+pub record_zero : record_bytes 0 0 0 0 ≡ replicate lent_record 0
 unfolding record_bytes four_bytes two_bytes
 record_zero = refl
 

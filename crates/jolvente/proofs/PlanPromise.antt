@@ -15,7 +15,7 @@ use Rattle.rack.proofs.Logic.{by_eq}
 use Rattle.rack.proofs.Numbers.{file_numbers}
 use Rattle.planner.specs.PlanBytes.{plan_bytes}
 use Rattle.planner.specs.Planning.{writing_refusal, WriteSays, Found}
-use Rattle.planner.specs.declared.Answer.{Answer}
+use Rattle.planner.specs.Answer.{Answer}
 use Rattle.planner.proofs.WritePromise.{plan_found}
 use Rattle.reader.specs.Promises.{Measured}
 use Rattle.reader.proofs.Promises.{read_measured}
@@ -53,8 +53,8 @@ module _ (bs : List ℕ) (r : ℕ) (plan plan_now rec rec_now : List ℕ) (s : C
       (plan_found bs answer plan plan_now (record { room = q.room; formed = q.formed; whole = q.whole }) answer_says)
 
 pub with_found : (bs : List ℕ) (r : ℕ) (plan plan_now rec rec_now : List ℕ) → CWriteSays bs r plan plan_now rec rec_now
-    → CWriteSays bs r plan plan_now rec rec_now × (CAsked bs plan rec → CFound bs r plan_now)
-with_found bs r plan plan_now rec rec_now s = (s, c_found bs r plan plan_now rec rec_now s)
+    → record { says : CWriteSays bs r plan plan_now rec rec_now; found : CAsked bs plan rec → CFound bs r plan_now }
+with_found bs r plan plan_now rec rec_now s = record { says = s; found = c_found bs r plan plan_now rec rec_now s }
 
 -- THE READER refuses nothing that is not measured
 pub c_measured : (ps : List ℕ) (r : ℕ) (rec rec_now : List ℕ) → CReadSays ps r rec rec_now → r ≡ 0 → Measured ps
@@ -64,5 +64,6 @@ c_measured ps r rec rec_now s z =
     (λ (e : length rec ≡ lent_record). read_measured ps (sym (s.answer ∙ rw (eq-eqb (length rec) lent_record e) refl) ∙ z))
     (λ (n : length rec ≢ lent_record). let one : r ≡ 1 = s.answer ∙ rw (ne_eqb (length rec) lent_record n) refl in absurd (omega arith))
 
-pub with_promise : (ps : List ℕ) (r : ℕ) (rec rec_now : List ℕ) → CReadSays ps r rec rec_now → CReadSays ps r rec rec_now × (r ≡ 0 → Measured ps)
-with_promise ps r rec rec_now s = (s, c_measured ps r rec rec_now s)
+pub with_promise : (ps : List ℕ) (r : ℕ) (rec rec_now : List ℕ) → CReadSays ps r rec rec_now
+    → record { says : CReadSays ps r rec rec_now; promise : r ≡ 0 → Measured ps }
+with_promise ps r rec rec_now s = record { says = s; promise = c_measured ps r rec rec_now s }

@@ -7,7 +7,7 @@ use lib.ListN.{length, get_or, replicate, length-append}
 use Rattle.rack.specs.Lists.{tabulate, blocks}
 use Rattle.rack.specs.Buffers.{number_at, two_bytes, Appends, four_bytes, number32_at}
 use Rattle.rack.proofs.Appending.{length_four_bytes, written_none, written_full, appends_then}
-use Rattle.rack.proofs.Tables.{tabulate_ext, tabulate_getD, length_blocks}
+use Rattle.rack.proofs.Tables.{tabulate_ext, tabulate_get_or, length_blocks}
 use Rattle.rack.proofs.WiringFile.{length_two_bytes, number_at_blocks}
 use Rattle.forwarder.specs.Calls.{lent_met}
 use Rattle.jolvente.specs.Records.{lent_record, lent_met_bytes, record_bytes, card_bytes, cards_in}
@@ -47,7 +47,7 @@ unfolding cards_in card_bytes
 cards_read cs e small =
     rw e (tabulate_ext 256 (λ i. number_at (blocks 256 (λ i. two_bytes (get_or cs i 0))) (2 * i)) (λ i. get_or cs i 0)
     (λ i h. number_at_blocks 256 (λ i. get_or cs i 0) i h (small i h)))
-    ∙ ap (λ (n : ℕ). tabulate n (λ i. get_or cs i 0)) (sym e) ∙ tabulate_getD cs 0
+    ∙ ap (λ (n : ℕ). tabulate n (λ i. get_or cs i 0)) (sym e) ∙ tabulate_get_or cs 0
 
 pub cards_appended : (n : ℕ) (cs o₀ o : List ℕ) → o₀ ≡ replicate n 0 → length o ≡ lent_met_bytes → length cs ≡ lent_met
     → Appends 0 o₀ o (blocks 256 (λ i. two_bytes (get_or cs i 0))) → o ≡ card_bytes cs

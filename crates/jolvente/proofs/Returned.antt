@@ -10,7 +10,7 @@ use Rattle.rack.proofs.Logic.{by_eq}
 use Rattle.rack.proofs.Numbers.{file_numbers}
 use Rattle.rack.specs.Limits.{lent_plan}
 use Rattle.planner.specs.Planning.{writing_refusal, AnswerIs}
-use Rattle.planner.specs.declared.Answer.{Answer}
+use Rattle.planner.specs.Answer.{Answer}
 
 pub returned_fits : (bs : List ℕ) (room v : ℕ) (r : Answer) → AnswerIs (writing_refusal bs room) v r → r.number + 256 * r.at < 4294967296
 unfolding writing_refusal

@@ -13,7 +13,7 @@ use Rattle.rack.specs.Buffers.{number32_at}
 use Rattle.forwarder.specs.Forwarding.{walk}
 use Rattle.forwarder.specs.Calls.{lent_met, walk_hops, walk_refusal, WalkSays}
 use Rattle.forwarder.specs.declared.walk.Tally.{Tally}
-use Rattle.forwarder.specs.declared.walk.Walked.{Walked}
+use Rattle.forwarder.specs.Calls.{Walked}
 use Rattle.forwarder.proofs.Answers.{walk_refusal_within}
 use Rattle.traffic.specs.Traffic.{caller_refusal}
 use Rattle.jolvente.specs.Records.{lent_record, lent_met_bytes, record_bytes, card_bytes, counts_in}

@@ -19,7 +19,7 @@ use Rattle.reader.proofs.Promises.{read_measured}
 use Rattle.forwarder.specs.Forwarding.{Walk, walk}
 use Rattle.forwarder.specs.Calls.{lent_met, walk_hops, walk_refusal, WalkSays, Frame, Arrived, CanTake}
 use Rattle.forwarder.specs.declared.walk.Tally.{Tally}
-use Rattle.forwarder.specs.declared.walk.Walked.{Walked}
+use Rattle.forwarder.specs.Calls.{Walked}
 use Rattle.forwarder.proofs.Arrival.{walk_arrived, walk_full}
 use Rattle.traffic.specs.Traffic.{caller_refusal}
 use Rattle.traffic.proofs.CallerRefusal.{caller_passes}
@@ -153,7 +153,10 @@ module _ (ps : List ℕ) (a b u r : ℕ) (met met_now rec rec_now : List ℕ) (s
   pub full : CFrame ps a b u met rec → (CanTake (counts_in rec) (hops (plan_wiring ps) a b) → ⊥) → CFull r met met_now rec rec_now
   full f never = c_full ps a b u r met met_now rec rec_now s f (replicate lent_met 0) (length-replicate {A = ℕ} lent_met 0) never
 
-  pub with_c_arrival : CWalkSays ps a b u r met met_now rec rec_now
-      × ((CFrame ps a b u met rec → CanTake (counts_in rec) (hops (plan_wiring ps) a b) → Arrived ps a b (counts_in rec) (walked_in r rec_now) (cards_in met_now))
-      × (CFrame ps a b u met rec → (CanTake (counts_in rec) (hops (plan_wiring ps) a b) → ⊥) → CFull r met met_now rec rec_now))
-  with_c_arrival = (s, (arrives, full))
+  pub with_c_arrival :
+      record {
+        says : CWalkSays ps a b u r met met_now rec rec_now;
+        arrives : CFrame ps a b u met rec → CanTake (counts_in rec) (hops (plan_wiring ps) a b) → Arrived ps a b (counts_in rec) (walked_in r rec_now) (cards_in met_now);
+        full : CFrame ps a b u met rec → (CanTake (counts_in rec) (hops (plan_wiring ps) a b) → ⊥) → CFull r met met_now rec rec_now;
+      }
+  with_c_arrival = record { says = s; arrives = arrives; full = full }

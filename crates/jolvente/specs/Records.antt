@@ -4,7 +4,7 @@ use Rattle.rack.specs.Lists.{tabulate, blocks}
 use Rattle.rack.specs.Buffers.{number_at, number32_at, two_bytes, four_bytes}
 use Rattle.forwarder.specs.Calls.{lent_met}
 use Rattle.forwarder.specs.declared.walk.Tally.{Tally}
-use Rattle.forwarder.specs.declared.walk.Walked.{Walked}
+use Rattle.forwarder.specs.Calls.{Walked}
 
 abbrev pub lent_record : ℕ
 lent_record = 16

@@ -24,15 +24,19 @@ pub fn jolvente_write_plan(wiring: &[u8], plan: &mut [u8], record: &mut [u8]) ->
     ensures says { CWriteSays wiring.now result plan.old plan.new «record».old «record».new }
     ensures found { CAsked wiring.now plan.old «record».old → CFound wiring.now result plan.new }
 {
-    if plan.len() != LENT_PLAN {
+    if plan.len() != LENT_PLAN || record.len() != LENT_RECORD {
         return 1;
     }
-    if record.len() != LENT_RECORD {
-        return 1;
+    match write_plan(wiring, plan) {
+        Ok(length) => {
+            put_record(record, length, 0, 0, 0);
+            0
+        }
+        Err(refused) => {
+            record.fill(0);
+            refused.number() + 256 * refused.place()
+        }
     }
-    let answer = write_plan(wiring, plan);
-    put_record(record, answer.value, 0, 0, 0);
-    answer.number + 256 * answer.at
 }
 
 // Reads a plan: 1, 12, 13. The record has the plan's sizes.
@@ -43,12 +47,19 @@ pub fn jolvente_read_plan(plan: &[u8], record: &mut [u8]) -> u32
     if record.len() != LENT_RECORD {
         return 1;
     }
-    let sizes = read_plan(plan);
-    if sizes.number != 0 {
-        return sizes.number;
+    match read_plan(plan) {
+        Ok(sized) => {
+            put_record(
+                record,
+                sized.cards as u32,
+                sized.links as u32,
+                sized.columns as u32,
+                0,
+            );
+            0
+        }
+        Err(refused) => refused.number(),
     }
-    put_record(record, sizes.cards, sizes.links, sizes.columns, 0);
-    0
 }
 
 // Walks a frame of a caller: 1, 12, 18, 14, 15. The record has how it ended, its hops, and the caller's counts, which it had at entry.
@@ -64,27 +75,24 @@ pub fn jolvente_walk(
     ensures arrives { CFrame plan.now from goal caller met.old «record».old → CanTake (counts_in «record».old) (hops (plan_wiring plan.now) from goal) → Arrived plan.now from goal (counts_in «record».old) (walked_in result «record».new) (cards_in met.new) }
     ensures full { CFrame plan.now from goal caller met.old «record».old → (CanTake (counts_in «record».old) (hops (plan_wiring plan.now) from goal) → ⊥) → CFull result met.old met.new «record».old «record».new }
 {
-    if met.len() != LENT_MET_BYTES {
+    if met.len() != LENT_MET_BYTES || record.len() != LENT_RECORD {
         return 1;
     }
-    if record.len() != LENT_RECORD {
-        return 1;
-    }
-    let fault = caller_fault(plan, caller);
-    if fault != 0 {
-        return fault;
+    if let Err(refused) = caller_fault(plan, caller) {
+        return refused.number();
     }
     let tally = Tally {
         frames: number32_at(record, 8),
         hops: number32_at(record, 12),
     };
-    let mut cards = [0u16; LENT_MET];
-    let w = walk_counted(plan, from, goal, tally, &mut cards);
-    if w.number != 0 {
-        return w.number;
+    let mut cards = [0; LENT_MET];
+    match walk_counted(plan, from, goal, tally, &mut cards) {
+        Ok(w) => {
+            put_cards(&cards, met);
+            let t = w.tally;
+            put_record(record, u32::from(w.arrived), w.hops, t.frames, t.hops);
+            0
+        }
+        Err(refused) => refused.number(),
     }
-    put_cards(&cards, met);
-    let t = w.tally;
-    put_record(record, w.arrived, w.hops, t.frames, t.hops);
-    0
 }

@@ -1,11 +1,9 @@
 // Lent records of four numbers of 32 bits, and cards of 16 bits in lent bytes.
 ghost use Rattle.std.specs.Prelude.{◌≡◌, length};
-ghost use Rattle.forwarder.specs.Calls.{lent_met};
 ghost use Rattle.jolvente.specs.Records.{card_bytes, lent_met_bytes, lent_record, record_bytes};
 
 use forwarder::walk::LENT_MET;
 use rack::bytes::{put_number, put_number32};
-use rack::fill::clear_bytes;
 
 // The lengths of the lent bytes: a record, and two bytes for each card.
 pub const LENT_RECORD: usize = 16;
@@ -17,7 +15,7 @@ pub fn put_record(record: &mut [u8], x: u32, y: u32, z: u32, u: u32)
     requires { length «record».old ≡ lent_record }
     ensures { «record».new ≡ record_bytes x y z u }
 {
-    clear_bytes(record);
+    record.fill(0);
     put_number32(record, 0, x);
     put_number32(record, 4, y);
     put_number32(record, 8, z);
@@ -25,14 +23,12 @@ pub fn put_record(record: &mut [u8], x: u32, y: u32, z: u32, u: u32)
 }
 
 // Writes the cards met.
-pub fn put_cards(cards: &[u16], bytes: &mut [u8])
-    requires { (length cards.now ≡ lent_met) × (length bytes.old ≡ lent_met_bytes) }
+pub fn put_cards(cards: &[u16; LENT_MET], bytes: &mut [u8])
+    requires { length bytes.old ≡ lent_met_bytes }
     ensures { bytes.new ≡ card_bytes cards.now }
 {
-    clear_bytes(bytes);
-    let mut i: usize = 0;
-    while i < LENT_MET {
-        put_number(bytes, 2 * i, cards[i] as usize);
-        i += 1;
+    bytes.fill(0);
+    for (i, card) in cards.iter().enumerate() {
+        put_number(bytes, 2 * i, usize::from(*card));
     }
 }

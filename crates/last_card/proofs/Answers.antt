@@ -1,5 +1,6 @@
 -- What the calls answer, from what reading with the sum said of the plan and what was made of its bytes. Assumes nothing.
-use mathlib.Core.Path.{◌≡◌, refl, sym, ap, ◌∙◌, subst, subst₂}
+use Rattle.std.specs.Prelude.{Ok, Err}
+use mathlib.Core.Path.{◌≡◌, refl, sym, ◌∙◌, subst, subst₂}
 use mathlib.Core.Bool.{true}
 use mathlib.Core.Logic.{◌≢◌}
 use mathlib.Core.List.{List}
@@ -9,129 +10,128 @@ use lib.ListN.{length}
 use borrow.Author.Tests.{eq-eqb, ne_eqb}
 use Rattle.rack.specs.Limits.{lent_plan}
 use Rattle.rack.specs.Wiring.{Wiring}
-use Rattle.rack.specs.PlanFile.{plan_cards, plan_links, plan_wiring}
-use Rattle.rack.proofs.Logic.{by_eq}
+use Rattle.rack.specs.PlanFile.{plan_cards, plan_links, plan_wiring, Sized}
 use Rattle.planner.specs.PlanBytes.{plan_bytes}
-use Rattle.reader.specs.Promises.{Measured}
-use Rattle.reader.specs.Reading.{LaidOut, SizesSay}
-use Rattle.reader.specs.declared.layout.Sizes.{Sizes}
+use Rattle.rack.specs.Refused.{refusal_of}
+use Rattle.rack.specs.declared.refused.Refused.{Refused}
+use Rattle.rack.specs.declared.views.Plan.{Plan}
+use Rattle.reader.specs.Reading.{sizes_of}
+use Rattle.rack.proofs.RefusalNumbers.{refusal_numbered}
 use Rattle.pendant.specs.Pendant.{without_card, last_hangs}
 use Rattle.totals.specs.Totals.{hops_to, total_hops}
 use Rattle.plan_totals.specs.Summed.{total_refusal, ReadWithTotalSays}
 use Rattle.plan_totals.proofs.Refusals.{total_clear}
 use Rattle.plan_totals.proofs.Answers.{total_laid_out}
 use Rattle.plan_changer.specs.Changed.{more_bytes, fewer_bytes}
-use Rattle.plan_changer.specs.Changing.{NewPlanIs, add_refusal, off_refusal}
-use Rattle.plan_changer.specs.declared.NewPlan.{NewPlan}
-use Rattle.plan_changer.proofs.Refused.{refused_before, clear_fits, clear_hanging}
+use Rattle.plan_changer.specs.Changing.{NewPlan, NewPlanIs, new_plan_of, add_refusal, off_refusal}
+use Rattle.plan_changer.proofs.Refused.{refused_before, clear_fits, off_refused_before, clear_hanging}
 use Rattle.plan_changer.proofs.Answers.{plan_refused}
-use Rattle.last_card.specs.Calls.{add_card_refusal, take_off_refusal, ChangedIs, AddSays, TakeOffSays, without_total, not_changed}
+use Rattle.last_card.specs.Calls.{add_card_refusal, take_off_refusal, summed_plan_of, ChangedIs, AddSays, TakeOffSays}
 use Rattle.last_card.specs.Promises.{ReadWith}
-use Rattle.last_card.specs.declared.SummedPlan.{SummedPlan}
 use Rattle.last_card.proofs.ChangedPlans.{more_bytes_planned, fewer_bytes_planned}
-use Rattle.last_card.proofs.ChangedSums.{total_few, total_more, total_less}
+use Rattle.last_card.proofs.ChangedSums.{total_few, hops_few, total_more, total_less}
 use Rattle.last_card.proofs.Refusals.{add_in_room, take_off_in_room}
-use Rattle.last_card.proofs.Planned.{refused_keeps, not_refused}
+use Rattle.last_card.proofs.Planned.{refused_keeps}
 
 -- A REFUSAL leaves the lent bytes
-pub changed_refused : (refused : ℕ) (w : Wiring) (r : SummedPlan) (output : List ℕ) (number : ℕ) → number ≢ 0 → number ≡ refused → r ≡ not_changed number
-    → ChangedIs refused w r output output
-changed_refused refused w r output number n e a =
+pub changed_refused : (refused : ℕ) (w : Wiring) (output : List ℕ) (e : Refused) → refused ≡ (refusal_of e).number
+    → ChangedIs refused w (summed_plan_of (Err e)) output output
+changed_refused refused w output e f =
+    let n = refusal_numbered e in
     record {
-      plan = plan_refused refused (plan_bytes w) (without_total r) output number n e (ap without_total a);
-      total = ap (λ (q : SummedPlan). q.total) a ∙ rw (ne_eqb refused 0 (λ z. n (e ∙ z))) refl;
+      plan = plan_refused refused (plan_bytes w) output e f n;
+      total = rw (ne_eqb refused 0 (λ z. n (sym f ∙ z))) refl;
     }
 
 -- .. and so does one that comes from the changed bytes; with none, these are the planner's and come with their sum
-module _ {x : ℕ} {plan : List ℕ} {new : NewPlan} {output output_now : List ℕ} (says : NewPlanIs x plan new output output_now) (refused : ℕ)
-    (same : x ≡ refused) (w : Wiring) where
-  changed_not_left : new.number ≢ 0 → (r : SummedPlan) → r ≡ not_changed new.number → ChangedIs refused w r output output_now
-  changed_not_left n r a =
-      subst (ChangedIs refused w r output) (sym (refused_keeps says n).1) (changed_refused refused w r output new.number n (says.number ∙ same) a)
+module _ {x : ℕ} {plan output output_now : List ℕ} (refused : ℕ) (same : x ≡ refused) (w : Wiring) where
+  changed_not_left : (e : Refused) → NewPlanIs x plan (new_plan_of (Err e)) output output_now → ChangedIs refused w (summed_plan_of (Err e)) output output_now
+  changed_not_left e says =
+      subst (ChangedIs refused w (summed_plan_of (Err e)) output) (sym (refused_keeps says (refusal_numbered e)).1)
+      (changed_refused refused w output e (sym (says.number ∙ same)))
 
-  changed_left : new.number ≡ 0 → plan ≡ plan_bytes w → (total : ℕ) → total ≡ total_hops w
-      → ChangedIs refused w (record { number = 0; length = new.length; total = total }) output output_now
-  changed_left z bytes total e =
-      let found : NewPlan = record { number = 0; length = new.length } in
-      let left : NewPlanIs x plan found output output_now =
-      record { number = sym z ∙ says.number; long = says.long; output_left = says.output_left } in
+  changed_left : (size total : ℕ) → NewPlanIs x plan (new_plan_of (Ok size)) output output_now → plan ≡ plan_bytes w → total ≡ total_hops w
+      → ChangedIs refused w (record { number = 0; length = size; total = total }) output output_now
+  changed_left size total says bytes e =
+      let left : NewPlan = record { number = 0; length = size } in
       record {
-        plan = subst₂ (λ (i : ℕ) (bs : List ℕ). NewPlanIs i bs found output output_now) same bytes left;
-        total = rw (eq-eqb refused 0 (sym same ∙ not_refused says z)) e;
+        plan = subst₂ (λ (i : ℕ) (bs : List ℕ). NewPlanIs i bs left output output_now) same bytes says;
+        total = rw (eq-eqb refused 0 (sym (says.number ∙ same))) e;
       }
 
-module _ (ps : List ℕ) (t : ℕ) (s : Sizes) (reads : ReadWithTotalSays ps t s) where
+-- WITH A SUM THAT REFUSES the plan
+module _ (ps : List ℕ) (t : ℕ) (e : Refused) (reads : ReadWithTotalSays ps t (sizes_of (Err e))) (output : List ℕ) (room : length output ≡ lent_plan) where
+  refuses : total_refusal ps t ≢ 0
+  refuses z = refusal_numbered e (reads.number ∙ z)
+
+  pub add_not_read : (c : ℕ) → AddSays ps t c (summed_plan_of (Err e)) output output
+  add_not_read c =
+      changed_refused _ _ output e
+      (add_in_room ps t c (length output) room ∙ refused_before (total_refusal ps t) (plan_cards ps) (plan_links ps) c refuses ∙ sym reads.number)
+
+  pub take_off_not_read : TakeOffSays ps t (summed_plan_of (Err e)) output output
+  take_off_not_read =
+      changed_refused _ _ output e
+      (take_off_in_room ps t (length output) room
+      ∙ off_refused_before (total_refusal ps t) (last_hangs (plan_wiring ps)) refuses ∙ sym reads.number)
+
+-- WITH THE PLAN'S OWN
+module _ (ps : List ℕ) (t : ℕ) (p : Plan) (reads : ReadWithTotalSays ps t (sizes_of (Ok p))) where
   abbrev w : Wiring
   w = plan_wiring ps
 
   abbrev n : ℕ
   n = plan_cards ps
 
-  read_with : s.number ≡ 0 → ReadWith ps t
-  read_with z = total_clear ps t (sym reads.number ∙ z)
+  clear : ReadWith ps t
+  clear = total_clear ps t (sym reads.number)
 
-  -- A CARD MORE: the number by the sizes that were read is that of the plan and its sum
-  add_number : (c : ℕ) → add_refusal s.number s.cards s.links c ≡ add_refusal (total_refusal ps t) n (plan_links ps) c
-  add_number c =
-      by_eq (total_refusal ps t) 0
-      (λ e. let z : SizesSay ps 0 s = rw e at reads in rw (z.number, z.cards, z.links, e) refl)
-      (λ d.
-      refused_before s.number s.cards s.links c (λ e. d (sym reads.number ∙ e))
-      ∙ reads.number ∙ sym (refused_before (total_refusal ps t) n (plan_links ps) c d))
+  laid : Sized ps p.cards p.links p.columns
+  laid = total_laid_out ps t (sizes_of (Ok p)) reads refl
 
-  module _ (c : ℕ) (new : NewPlan) (output output_now : List ℕ)
-      (says : NewPlanIs (add_refusal s.number s.cards s.links c) (more_bytes ps c) new output output_now) where
-    add_clear : add_refusal s.number s.cards s.links c ≡ 0 → ReadWith ps t × LaidOut ps s × (s.number ≡ 0) × (c < s.cards)
-    add_clear z =
-        let f = clear_fits s.number s.cards s.links c z in
-        (read_with f.0, total_laid_out ps t s reads f.0, f.0, f.1)
+  pub total_fits : t ≤ 16777216
+  total_fits = total_few ps laid t clear.1
 
-    -- with no refusal the card's hops may be asked for
-    pub add_asks : new.number ≡ 0 → (s.number ≡ 0 → Measured ps) → LaidOut ps s × Measured ps × (c < s.cards) × (t ≤ 16777216)
-    add_asks z m = let f = add_clear (not_refused says z) in (f.1, m f.2, f.3, total_few ps s f.1 t f.0.1)
+  pub hops_fit : (h a : ℕ) → h ≡ hops_to w n a → h ≤ 65536
+  hops_fit = hops_few ps laid
 
-    module _ (room : length output ≡ lent_plan) where
-      add_same : add_refusal s.number s.cards s.links c ≡ add_card_refusal ps t c (length output)
-      add_same = add_number c ∙ sym (add_in_room ps t c (length output) room)
+  module _ (output output_now : List ℕ) (room : length output ≡ lent_plan) where
+    -- A CARD MORE
+    module _ (c : ℕ) where
+      add_same : add_refusal 0 p.cards p.links c ≡ add_card_refusal ps t c (length output)
+      add_same = rw (add_in_room ps t c (length output) room, ← reads.number, laid.cards, laid.links) refl
 
-      pub adding_refused : new.number ≢ 0 → (r : SummedPlan) → r ≡ not_changed new.number → AddSays ps t c r output output_now
-      adding_refused = changed_not_left says _ add_same _
+      pub adding_refused : (e : Refused) → NewPlanIs (add_refusal 0 p.cards p.links c) (more_bytes ps c) (new_plan_of (Err e)) output output_now
+          → AddSays ps t c (summed_plan_of (Err e)) output output_now
+      adding_refused e says = changed_not_left _ add_same _ e says
 
-      pub add_answered : new.number ≡ 0 → (h : ℕ) → h ≡ hops_to w n c
-          → AddSays ps t c (record { number = 0; length = new.length; total = t + s.cards + h }) output output_now
-      add_answered z h e =
-          let f = add_clear (not_refused says z) in
-          let inside : c < n = omega (arith, f.1.cards, f.3) in
-          changed_left says _ add_same _ z (more_bytes_planned ps f.0.0 c inside) (t + s.cards + h)
-          (omega (arith, e, f.1.cards, total_more ps t f.0 c inside))
+      module _ (size : ℕ) (says : NewPlanIs (add_refusal 0 p.cards p.links c) (more_bytes ps c) (new_plan_of (Ok size)) output output_now) where
+        pub add_inside : c < p.cards
+        add_inside = (clear_fits 0 p.cards p.links c (sym says.number)).1
 
-  -- THE LAST CARD LESS
-  module _ (new : NewPlan) (output output_now : List ℕ)
-      (says : NewPlanIs (off_refusal s.number (last_hangs w)) (fewer_bytes ps) new output output_now) where
-    off_clear : off_refusal s.number (last_hangs w) ≡ 0 → ReadWith ps t × LaidOut ps s × (s.number ≡ 0) × (last_hangs w ≡ true)
-    off_clear z =
-        let f = clear_hanging s.number (last_hangs w) z in
-        (read_with f.0, total_laid_out ps t s reads f.0, f.0, f.1)
+        pub add_answered : (h : ℕ) → h ≡ hops_to w n c
+            → AddSays ps t c (record { number = 0; length = size; total = t + p.cards + h }) output output_now
+        add_answered h e =
+            let inside : c < n = omega (arith, laid.cards, add_inside) in
+            changed_left _ add_same _ size (t + p.cards + h) says (more_bytes_planned ps clear.0 c inside)
+            (omega (arith, e, laid.cards, total_more ps t clear c inside))
 
-    -- with no refusal the last card's hops may be asked for, and they are a part of the sum
-    module _ (z : new.number ≡ 0) where
-      pub take_off_asks : (s.number ≡ 0 → Measured ps) → LaidOut ps s × Measured ps × (s.cards - 1 < s.cards)
-      take_off_asks m =
-          let f = off_clear (not_refused says z) in
-          (f.1, m f.2, omega (arith, f.1.some))
+    -- THE LAST CARD LESS
+    off_same : off_refusal 0 (last_hangs w) ≡ take_off_refusal ps t (length output)
+    off_same = rw (take_off_in_room ps t (length output) room, ← reads.number) refl
 
-      pub take_off_sum : t ≡ total_hops (without_card w) + hops_to w n (s.cards - 1)
-      take_off_sum = let f = off_clear (not_refused says z) in rw f.1.cards (total_less ps t f.0 f.3)
+    pub taking_off_refused : (e : Refused) → NewPlanIs (off_refusal 0 (last_hangs w)) (fewer_bytes ps) (new_plan_of (Err e)) output output_now
+        → TakeOffSays ps t (summed_plan_of (Err e)) output output_now
+    taking_off_refused e says = changed_not_left _ off_same _ e says
 
-    module _ (room : length output ≡ lent_plan) where
-      off_same : off_refusal s.number (last_hangs w) ≡ take_off_refusal ps t (length output)
-      off_same = rw (take_off_in_room ps t (length output) room, reads.number) refl
+    module _ (size : ℕ) (says : NewPlanIs (off_refusal 0 (last_hangs w)) (fewer_bytes ps) (new_plan_of (Ok size)) output output_now) where
+      hangs : last_hangs w ≡ true
+      hangs = (clear_hanging 0 (last_hangs w) (sym says.number)).1
 
-      pub taking_off_refused : new.number ≢ 0 → (r : SummedPlan) → r ≡ not_changed new.number → TakeOffSays ps t r output output_now
-      taking_off_refused = changed_not_left says _ off_same _
+      pub take_off_sum : t ≡ total_hops (without_card w) + hops_to w n (p.cards - 1)
+      take_off_sum = rw laid.cards (total_less ps t clear hangs)
 
-      pub take_off_answered : new.number ≡ 0 → (h : ℕ) → h ≡ hops_to w n (s.cards - 1)
-          → TakeOffSays ps t (record { number = 0; length = new.length; total = t - h }) output output_now
-      take_off_answered z h e =
-          let f = off_clear (not_refused says z) in
-          changed_left says _ off_same _ z (fewer_bytes_planned ps f.0.0 f.3) (t - h) (omega (arith, e, take_off_sum z))
+      pub take_off_answered : (h : ℕ) → h ≡ hops_to w n (p.cards - 1)
+          → TakeOffSays ps t (record { number = 0; length = size; total = t - h }) output output_now
+      take_off_answered h e =
+          changed_left _ off_same _ size (t - h) says (fewer_bytes_planned ps clear.0 hangs) (omega (arith, e, take_off_sum))

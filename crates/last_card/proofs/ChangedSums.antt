@@ -6,10 +6,8 @@ use mathlib.Core.List.{List}
 use Prim.Native.Nat.{ℕ, ◌+◌, ◌-◌, ◌≤◌, ◌<◌}
 use native.Mathlib.Omega.{arith}
 use Rattle.rack.specs.Wiring.{Wiring, link_count, link_at, other_end}
-use Rattle.rack.specs.PlanFile.{plan_cards, plan_wiring}
+use Rattle.rack.specs.PlanFile.{plan_cards, plan_wiring, Sized}
 use Rattle.rack.proofs.WiringFile.{wiring_at_cards}
-use Rattle.reader.specs.Reading.{LaidOut}
-use Rattle.reader.specs.declared.layout.Sizes.{Sizes}
 use Rattle.reader.proofs.Promises.{read_accepted}
 use Rattle.pendant.specs.Pendant.{with_card, without_card, last_hangs}
 use Rattle.totals.specs.Totals.{hops_to, total_hops}
@@ -18,7 +16,7 @@ use Rattle.last_card.specs.Promises.{ReadWith}
 use Rattle.last_card.proofs.ChangedPlans.{pendant_more, pendant_less, whole_less}
 
 -- HOW LARGE they are in a plan with a layout
-module _ (ps : List ℕ) (s : Sizes) (laid : LaidOut ps s) where
+module _ (ps : List ℕ) {n m k : ℕ} (laid : Sized ps n m k) where
   few : (plan_wiring ps).cards ≤ 256
   few = omega (arith, laid.few, laid.cards, wiring_at_cards 6 ps)
 

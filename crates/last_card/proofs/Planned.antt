@@ -18,7 +18,7 @@ use Rattle.rack.proofs.Accepted.{wiring_accepted}
 use Rattle.rack.proofs.WiringFile.{wiring_at_cards, wiring_at_count}
 use Rattle.planner.specs.PlanBytes.{plan_bytes}
 use Rattle.planner.specs.Planning.{left_in, writing_refusal, WriteSays}
-use Rattle.planner.specs.declared.Answer.{Answer}
+use Rattle.planner.specs.Answer.{Answer}
 use Rattle.reader.specs.Plan.{plan_refusal}
 use Rattle.reader.specs.Promises.{ReadExactly}
 use Rattle.reader.proofs.Plan.{Layout, layout_facts, plan_clear, plan_read}
@@ -26,11 +26,9 @@ use Rattle.reader.proofs.Promises.{read_exactly}
 use Rattle.pendant.specs.Pendant.{with_card, without_card, last_hangs}
 use Rattle.pendant.proofs.Acceptance.{count_links, accepted_added, accepted_removed}
 use Rattle.totals.specs.Totals.{total_hops}
-use Rattle.plan_changer.specs.Changing.{NewPlanIs}
-use Rattle.plan_changer.specs.declared.NewPlan.{NewPlan}
+use Rattle.plan_changer.specs.Changing.{NewPlan, NewPlanIs}
 use Rattle.plan_changer.proofs.Refused.{Full}
-use Rattle.last_card.specs.Calls.{ChangedIs}
-use Rattle.last_card.specs.declared.SummedPlan.{SummedPlan}
+use Rattle.last_card.specs.Calls.{SummedPlan, ChangedIs}
 use Rattle.last_card.proofs.ChangedPlans.{pendant_more, pendant_less}
 
 -- PLANNED: the wiring's plan is read with it inside, and its file is accepted with it inside

@@ -19,10 +19,9 @@ use Rattle.plan_totals.proofs.Refusals.{total_refused_before, other_total, clear
 use Rattle.plan_changer.specs.Changing.{off_refusal}
 use Rattle.plan_changer.proofs.Refused.{Full, refused_before, card_outside, full_refused, card_fits}
 use Rattle.plan_changer.proofs.Refused.{off_refused_before, not_hanging_refused, hanging_clear}
-use Rattle.last_card.specs.Calls.{AddSays, TakeOffSays}
+use Rattle.last_card.specs.Calls.{SummedPlan, AddSays, TakeOffSays}
 use Rattle.last_card.specs.Promises.{ReadWith, AddRefused, TakeOffRefused, RefusalsKeep, AddedIsRead, TakenOffIsRead}
 use Rattle.last_card.specs.Promises.{AddedAsWritten, TakenOffAsWritten, AddedTotal, TakenOffTotal, TakingOffUndoes}
-use Rattle.last_card.specs.declared.SummedPlan.{SummedPlan}
 use Rattle.last_card.proofs.ChangedPlans.{pendant_more, pendant_less}
 use Rattle.last_card.proofs.ChangedSums.{total_more, total_left}
 use Rattle.last_card.proofs.Refusals.{add_no_room, add_in_room, fits_of_0, outside_of_14, full_of_16, add_clear}

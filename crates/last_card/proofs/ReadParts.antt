@@ -1,6 +1,7 @@
 -- A plan that was read, by its parts: the ends of the links and the bytes of the addresses are those of the wiring inside; and what is known of
 -- its sizes. Assumes nothing.
-use mathlib.Core.Path.{◌≡◌, sym, ap, ◌∙◌}
+use Rattle.std.specs.Prelude.{Ok}
+use mathlib.Core.Path.{◌≡◌, refl, sym, ap, ◌∙◌}
 use mathlib.Core.Bool.{Bool}
 use mathlib.Core.List.{List, ◌++◌, append_assoc}
 use Prim.Native.Nat.{ℕ, ◌+◌, ◌*◌, ◌-◌, ◌≤◌, ◌<◌}
@@ -15,7 +16,7 @@ use Rattle.rack.specs.WiringFile.{end_bytes}
 use Rattle.rack.specs.Columns.{column_count, address}
 use Rattle.rack.specs.PlanFile.{plan_links, plan_columns, plan_wiring, address_size}
 use Rattle.rack.proofs.Logic.{by_lt}
-use Rattle.rack.proofs.Lists.{in_getD}
+use Rattle.rack.proofs.Lists.{in_get_or}
 use Rattle.rack.proofs.Tables.{tabulate_ext, length_blocks, blocks_add}
 use Rattle.rack.proofs.Bits.{bits_value_few}
 use Rattle.rack.proofs.Columns.{past_columns}
@@ -25,7 +26,8 @@ use Rattle.rack.proofs.Accepted.{Accepted}
 use Rattle.rack.proofs.WiringFile.{length_two_bytes, wiring_at_cards, wiring_at_count}
 use Rattle.planner.specs.PlanBytes.{address_bytes, plan_bytes}
 use Rattle.reader.specs.Plan.{plan_refusal}
-use Rattle.reader.specs.declared.layout.Sizes.{Sizes}
+use Rattle.rack.specs.declared.views.Plan.{Plan}
+use Rattle.reader.specs.Reading.{sizes_of}
 use Rattle.reader.proofs.Plan.{plan_clear}
 use Rattle.reader.proofs.Promises.{read_accepted, read_byte, read_columns}
 use Rattle.plan_totals.specs.Summed.{ReadWithTotalSays}
@@ -124,16 +126,15 @@ link_crosses : (w : Wiring) → Accepted w → 0 < link_count w → 0 < column_c
 link_crosses w a some =
     let l = link_at w 0 in
     let x = crossing w (column_count w) (address w) a.embedding a.rack l.first l.second
-    (link_joins w l (in_getD w.links 0 (link 0 0) some)) in
+    (link_joins w l (in_get_or w.links 0 (link 0 0) some)) in
     omega (arith, x.inside)
 
-pub read_known : (ps : List ℕ) (t : ℕ) (s : Sizes) → ReadWithTotalSays ps t s → s.number ≡ 0 → Known ps s
-read_known ps t s says z =
-    let h = (total_clear ps t (sym says.number ∙ z)).0 in
+pub read_known : (ps : List ℕ) (t : ℕ) (p : Plan) → ReadWithTotalSays ps t (sizes_of (Ok p)) → Known p
+read_known ps t p says =
+    let h = (total_clear ps t (sym says.number)).0 in
     let a = read_accepted ps h in
-    let laid = total_laid_out ps t s says z in
+    let laid = total_laid_out ps t (sizes_of (Ok p)) says refl in
     record {
-      laid_out = laid;
       few = omega (arith, a.few, laid.columns, laid.cards, read_columns ps h, wiring_at_cards 6 ps);
       crossed = λ some. omega (arith, link_crosses (plan_wiring ps) a (omega (arith, laid.links, wiring_at_count 6 ps)), laid.columns, read_columns ps h);
     }

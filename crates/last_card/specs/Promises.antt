@@ -6,15 +6,13 @@ use Rattle.rack.specs.Wiring.{link_count, link_at, other_end}
 use Rattle.rack.specs.WiringFile.{file_bytes}
 use Rattle.rack.specs.PlanFile.{plan_cards, plan_links, plan_wiring}
 use Rattle.planner.specs.Planning.{WriteSays}
-use Rattle.planner.specs.declared.Answer.{Answer}
+use Rattle.planner.specs.Answer.{Answer}
 use Rattle.reader.specs.Plan.{plan_refusal}
-use Rattle.reader.specs.Reading.{ReadSays}
-use Rattle.reader.specs.declared.layout.Sizes.{Sizes}
+use Rattle.reader.specs.Reading.{Sizes, ReadSays}
 use Rattle.pendant.specs.Pendant.{with_card, without_card, last_hangs}
 use Rattle.totals.specs.Totals.{hops_to}
 use Rattle.plan_totals.specs.Summed.{plan_total}
-use Rattle.last_card.specs.Calls.{add_card_refusal, take_off_refusal, AddSays, TakeOffSays}
-use Rattle.last_card.specs.declared.SummedPlan.{SummedPlan}
+use Rattle.last_card.specs.Calls.{SummedPlan, add_card_refusal, take_off_refusal, AddSays, TakeOffSays}
 
 -- "another sum in it is 13": the plan is read, and the sum that comes with it is its own
 abbrev pub ReadWith : List ℕ → (total : ℕ) → Type 0

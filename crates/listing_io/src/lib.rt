@@ -78,10 +78,10 @@ pub fn list_wiring<R: Read, W: Write>(input: &mut R, output: &mut W) -> Listed
     let mut file = [0u8; MOST_INPUT];
     let mut text = [0u8; LENT_TEXT];
     let taken = read_front(input, &mut file);
-    let answer = listing_text(&file[..taken.count], &mut text);
-    let written = write_front(output, &text[..answer.value as usize]);
+    let length = listing_text(&file[..taken.count], &mut text).unwrap_or(0);
+    let written = write_front(output, &text[..length as usize]);
     Listed {
-        length: answer.value,
+        length,
         written,
         is_read: taken.is_read,
     }

@@ -13,7 +13,7 @@ use Rattle.rack.specs.Lists.{one, tabulate, blocks}
 use Rattle.rack.specs.Bits.{number_bit}
 use Rattle.rack.proofs.Tables.{length_tabulate, blocks_add, blocks_snoc}
 use Rattle.text.specs.Decimals.{decimal}
-use Rattle.listing_text.specs.Listing.{card_word, space, dash, line_end, column_digit, size_lines, address_text, card_line, rack_lines}
+use Rattle.listing_text.specs.Listing.{card_word, space, dash, line_end, column_digit, address_text, card_line}
 use Rattle.text.proofs.Putting.{room_first}
 
 -- A BIT as a digit
@@ -60,11 +60,3 @@ blocks_room at room n c f l h =
     ap (λ (m : ℕ). blocks m f) e ∙ blocks_add (c + 1) (n - (c + 1)) f ∙ ap (λ (xs : List ℕ). xs ++ later) (blocks_snoc c f)
     in
     room_first at room (blocks c f ++ f c) later (rw split at h)
-
--- ROOM for a rack's lines, from the start on, is room for those of its sizes, and then of its cards
-pub rack_lines_room : (room n m k : ℕ) (rows : ℕ → ℕ → Bool) → length (rack_lines n m k rows) ≤ room
-    → (0 + length (size_lines n m k) ≤ room) × (0 + length (size_lines n m k ++ blocks n (card_line k rows)) ≤ room)
-unfolding rack_lines
-rack_lines_room room n m k rows h =
-    let all : 0 + length (size_lines n m k ++ blocks n (card_line k rows)) ≤ room = omega arith in
-    (room_first 0 room (size_lines n m k) (blocks n (card_line k rows)) all, all)

@@ -4,27 +4,34 @@ use mathlib.Core.Logic.{◌≢◌}
 use mathlib.Core.List.{List, []}
 use Prim.Native.Nat.{ℕ, ◌≤◌, ◌<◌}
 use native.Mathlib.Omega.{arith}
-use lib.ListN.{length, replicate}
+use Rattle.std.specs.Prelude.{Result, Ok, Err}
+use Rattle.std.specs.Result.{result_unwrap_or}
+use lib.Seq.{take-append_seam}
+use lib.ListN.{length, take, replicate, length-replicate}
 use borrow.Author.Tests.{eq-eqb, ne_eqb}
 use Rattle.rack.specs.Limits.{most_columns}
 use Rattle.rack.specs.Wiring.{Wiring, link_count}
 use Rattle.rack.specs.Columns.{columns, column_count, address}
 use Rattle.rack.specs.Refusals.{refusal}
+use Rattle.rack.specs.Refused.{refusal_of}
+use Rattle.rack.specs.declared.refused.Refused.{Refused}
 use Rattle.rack.specs.Buffers.{number_at}
 use Rattle.rack.specs.WiringFile.{file_wiring, file_refusal}
 use Rattle.rack.proofs.Tables.{tabulate_ext, blocks_ext}
 use Rattle.rack.proofs.Accepted.{file_clear}
+use Rattle.rack.proofs.RefusalNumbers.{refusal_numbered}
 use Rattle.rack.proofs.WiringFile.{Sized, wiring_at_cards, wiring_at_count}
 use Rattle.planner.specs.OpenColumns.{bit_in, WordsOf}
-use Rattle.planner.specs.Planning.{AnswerIs, Refuses}
+use Rattle.planner.specs.Planning.{AnswerIs, left_in}
 use Rattle.planner.specs.Words.{word_bit}
-use Rattle.planner.specs.declared.Answer.{Answer}
+use Rattle.planner.specs.Answer.{answer_of}
 use Rattle.planner.proofs.AddressWords.{word_bit_column}
 use Rattle.rack.proofs.Appending.{written_none}
 use Rattle.planner.proofs.PlanAnswer.{left_untouched, left_filled}
 use Rattle.listing_text.specs.Listing.{listing, column_digit, address_text, card_line, rack_lines, rack_text, refused_text}
 use Rattle.listing_text.specs.Listing.{lent_text, listing_refusal, ListingSays}
-use Rattle.text.specs.Putting.{Puts}
+use Rattle.text.specs.Putting.{Grows}
+use Rattle.text.specs.declared.put.Text.{Text}
 use Rattle.listing_text.specs.Planned.{Planned}
 use Rattle.listing_text.proofs.Fits.{accepted_sizes, listing_fits}
 
@@ -44,57 +51,72 @@ module _ (w : Wiring) (ws : List ℕ) (words : WordsOf (columns w) w.cards ws) (
   rack_lines_words =
       rw (blocks_ext w.cards (card_line (column_count w) (word_bit ws)) (card_line (column_count w) (address w)) card_line_words) refl
 
--- THE LISTING from planning
-module _ (bs : List ℕ) (r : Answer) (ws : List ℕ) (p : Planned bs r ws) where
-  pub listing_refused : r.number ≢ 0 → listing bs ≡ refused_text (refusal r.number r.at)
+-- THE LISTING from planning: the line of the refusal, or the lines of the rack
+pub listing_refused : (bs : List ℕ) (e : Refused) (ws : List ℕ) → Planned bs (answer_of (Err e)) ws → listing bs ≡ refused_text (refusal_of e)
+unfolding listing
+listing_refused bs e ws p =
+    let is : file_refusal bs ≡ refusal_of e = sym (ap₂ refusal p.1.number p.1.at) in
+    rw is (rw (ne_eqb (refusal_of e).number 0 (refusal_numbered e)) refl)
+
+module _ (bs : List ℕ) (k : ℕ) (ws : List ℕ) (p : Planned bs (answer_of (Ok k)) ws) where
+  accepted : (file_refusal bs).number ≡ 0
+  accepted = sym p.1.number
+
+  pub planned_sizes : Sized bs
+  planned_sizes = (file_clear bs accepted).0
+
+  pub planned_columns : k ≤ most_columns
+  planned_columns = omega (arith, p.1.value refl, (accepted_sizes bs accepted).columns)
+
+  pub listing_rack : (n m : ℕ) → n ≡ number_at bs 0 → m ≡ number_at bs 2 → rack_lines n m k (word_bit ws) ≡ listing bs
   unfolding listing
-  listing_refused n =
-      rw (ne_eqb (file_refusal bs).number 0 (λ z. n (p.1.number ∙ z))) (ap refused_text (ap₂ refusal (sym p.1.number) (sym p.1.at)))
-
-  module _ (z : r.number ≡ 0) where
-    accepted : (file_refusal bs).number ≡ 0
-    accepted = sym p.1.number ∙ z
-
-    pub planned_sizes : Sized bs
-    planned_sizes = (file_clear bs accepted).0
-
-    pub planned_columns : r.value ≤ most_columns
-    planned_columns = omega (arith, p.1.value z, (accepted_sizes bs accepted).columns)
-
-    pub listing_rack : (n m : ℕ) → n ≡ number_at bs 0 → m ≡ number_at bs 2 → rack_lines n m r.value (word_bit ws) ≡ listing bs
-    unfolding listing
-    listing_rack n m en em =
-        rw (eq-eqb (file_refusal bs).number 0 accepted, en, em, ← (wiring_at_cards 4 bs), ← (wiring_at_count 4 bs), p.1.value z)
-        (rack_lines_words (file_wiring bs) ws (p.1.words z) (accepted_sizes bs accepted).columns)
+  listing_rack n m en em =
+      rw (eq-eqb (file_refusal bs).number 0 accepted, en, em, ← (wiring_at_cards 4 bs), ← (wiring_at_count 4 bs), p.1.value refl)
+      (rack_lines_words (file_wiring bs) ws (p.1.words refl) (accepted_sizes bs accepted).columns)
 
 -- WHAT THE CALL SAYS
-pub listing_says_one : (bs : List ℕ) (r : Answer) (text : List ℕ) → length text ≢ lent_text → Refuses 1 0 r → ListingSays bs r text text
+pub listing_says_one : (bs text : List ℕ) → length text ≢ lent_text → ListingSays bs (record { number = 1; at = 0; value = 0 }) text text
 unfolding listing_refusal
-listing_says_one bs r text t f =
+listing_says_one bs text t =
     record {
-      answer = rw (ne_eqb (length text) lent_text t) (record { number = f.number; at = f.at; value = f.value });
-      text_left = rw f.number (sym (left_untouched (listing bs) text));
+      answer = rw (ne_eqb (length text) lent_text t) (record { number = refl; at = refl; value = refl });
+      text_left = sym (left_untouched (listing bs) text);
     }
 
-module _ (bs text zeros now : List ℕ) (v : ℕ) (room : length text ≡ lent_text) (p : Puts 0 zeros now (listing bs) v) where
-  pub listed_length : v ≡ length (listing bs)
-  listed_length = omega (arith, p.place)
+-- the text that grew by the listing, in a buffer that was made zero
+module _ (bs text now : List ℕ) (a b : Text) (room : length text ≡ lent_text) (g : Grows a b (listing bs)) (start : a.length ≡ 0) where
+  pub listed_length : b.length ≡ length (listing bs)
+  listed_length = omega (arith, g.puts.place)
 
-  pub listed_inside : v ≤ lent_text
+  pub listed_inside : b.length ≤ lent_text
   listed_inside = omega (arith, listed_length, listing_fits bs)
 
-  pub listing_says_text : zeros ≡ replicate (length text) 0 → length now ≡ length text
-      → ListingSays bs (record { number = 0; at = 0; value = v }) text now
+  pub listing_says_text : a.bytes.now ≡ replicate (length text) 0 → now ≡ b.bytes.now → ListingSays bs (record { number = 0; at = 0; value = b.length }) text now
   unfolding listing_refusal
-  listing_says_text e l =
+  listing_says_text e is =
+      let written = g.puts.adds [] (sym start) (rw e (written_none (length text))) in
+      let l : length now ≡ length text = omega (arith, ap length is, g.room, ap length e, length-replicate {A = ℕ} (length text) 0) in
       record {
         answer = rw (eq-eqb (length text) lent_text room) (record { number = refl; at = refl; value = listed_length });
-        text_left = left_filled 0 (listing bs) text now refl l (p.adds [] refl (rw e (written_none (length text)))).is;
+        text_left = left_filled 0 (listing bs) text now refl l (rw is written.is);
       }
 
--- in a buffer of its length the value is the listing's
-pub says_length : (bs : List ℕ) (r : Answer) (text now : List ℕ) → length text ≡ lent_text → ListingSays bs r text now → r.value ≡ length (listing bs)
-unfolding listing_refusal
-says_length bs r text now room s =
-    let a : AnswerIs (refusal 0 0) (length (listing bs)) r = rw (eq-eqb (length text) lent_text room) at s.answer in
-    a.value
+-- IN A BUFFER of its length the value is the listing's, which the text begins with
+value_of : (r : Result ℕ Refused) → result_unwrap_or r 0 ≡ (answer_of r).value
+value_of (Ok v) = refl
+value_of (Err e) = refl
+
+module _ (bs : List ℕ) (r : Result ℕ Refused) (text now : List ℕ) (room : length text ≡ lent_text) (s : ListingSays bs (answer_of r) text now) where
+  is_answer : AnswerIs (refusal 0 0) (length (listing bs)) (answer_of r)
+  unfolding listing_refusal
+  is_answer = rw (eq-eqb (length text) lent_text room) at s.answer
+
+  pub says_length : result_unwrap_or r 0 ≡ length (listing bs)
+  says_length = value_of r ∙ is_answer.value
+
+  pub says_fit : result_unwrap_or r 0 ≤ lent_text
+  says_fit = omega (arith, says_length, listing_fits bs)
+
+  pub says_front : take (result_unwrap_or r 0) now ≡ listing bs
+  unfolding left_in
+  says_front = rw (s.text_left, is_answer.number, says_length) (take-append_seam (listing bs) _)

@@ -1,14 +1,19 @@
 -- The listing of a wiring file, line by line, in the codes of its text. Assumes nothing: these are definitions.
-use Rattle.std.specs.Prelude.{◌≡◌, Bool, ◌||◌, cond, List, [], ◌++◌, ℕ, eqb, length}
+use Rattle.std.specs.Prelude.{◌≡◌, Bool, ◌||◌, cond, List, [], ◌++◌, ℕ, ◌≤◌, eqb, length}
+use Rattle.rack.specs.Limits.{most_cards, most_links, most_columns}
 use Rattle.rack.specs.Lists.{one, tabulate, blocks}
 use Rattle.rack.specs.Wiring.{Wiring, link_count}
 use Rattle.rack.specs.Columns.{column_count, address}
 use Rattle.rack.specs.Refusals.{Refusal, refusal}
 use Rattle.rack.specs.WiringFile.{file_wiring, file_refusal}
 use Rattle.planner.specs.Planning.{AnswerIs, left_in}
-use Rattle.planner.specs.declared.Answer.{Answer}
+use Rattle.planner.specs.Answer.{Answer}
 use Rattle.text.specs.Codes.{codes}
 use Rattle.text.specs.Decimals.{digit_code, decimal}
+
+-- the sizes of a rack that is listed
+abbrev pub SizesFit : (cards links columns : ℕ) → Type 0
+SizesFit cards links columns = (cards ≤ most_cards) × (links ≤ most_links) × (columns ≤ most_columns)
 
 -- THE FIXED WORDS
 unfoldable pub cards_word : List ℕ

@@ -1,40 +1,35 @@
 // The cases, one to a line: its kind, its numbers, and last the name that begins what is printed for it.
 use crate::lent::{lent, output};
-use crate::lines::{letter, line_end};
-use crate::plans::plan;
-use crate::say::say_text;
+use crate::lines::cell;
+use crate::plans::{changed, walk};
 use crate::wirings::{fault, rack};
+use std::io;
 
-// A case by the first letter of its kind.
-fn case(rt: &impl Print, line: &[u8]) {
-    match letter(line, 0) {
-        b'r' => rack(rt, line),
-        b'f' => fault(rt, line),
-        b'l' => lent(rt, line),
-        b'o' => output(rt, line),
-        b'c' | b'w' => plan(rt, line),
-        _ => {}
+// A case by its kind.
+fn case(rt: &impl Print, line: &str) -> io::Result<()> {
+    match cell(line, 0) {
+        "rack" => rack(rt, line),
+        "fault" => fault(rt, line),
+        "lent" => lent(rt, line),
+        "output" => output(rt, line),
+        "changed" => changed(rt, line),
+        "walk" => walk(rt, line),
+        _ => Ok(()),
     }
-    say_text(rt, b"\n", 0);
 }
 
-// Each line of a text as a case; a newline stands before each line.
-fn each_case(rt: &impl Print, text: &[u8]) {
-    let mut at: usize = 0;
-    while at < text.len() {
-        let first = at + 1;
-        let end = line_end(text, first);
-        case(rt, &text[first..end]);
-        at = end;
+// Each line of a text as a case.
+pub fn each_case(rt: &impl Print, text: &str) -> io::Result<()> {
+    for line in text.lines() {
+        case(rt, line)?;
+        println!(rt;)?;
     }
+    Ok(())
 }
 
 // Racks by rules: rule, cards, links, mixed or not, and a walk from one card to another. The first three are those that
 // docs/REQUIREMENTS.md names outside its table of cases.
-pub fn racks(rt: &impl Print) {
-    each_case(
-        rt,
-        b"
+pub const RACKS: &str = "\
 rack|chain    |256| 255|     |  0|255|chain 256:
 rack|chain    |257| 256|     |  0|256|chain 257:
 rack|16 by 128|256|2049|     |  0|  1|2,049 links:
@@ -63,17 +58,12 @@ rack|parts    |256| 254|mixed|  0|  1|two parts mixed:
 rack|loose    | 64|  64|     |  0| 63|loose 64, 64 links:
 rack|loose    | 90|  91|     |  0| 89|loose 90, 91 links:
 rack|loose    |200| 230|     |  0|  1|loose 200, 230 links:
-rack|chain    |  0|   0|     |  0|  0|no card:",
-    );
-}
+rack|chain    |  0|   0|     |  0|  0|no card:";
 
 // Files and lent buffers with faults.
 // fault: a ring's links, its number of cards, the bytes of its file, and two links put anew, each with its two ends.
 // lent: the bytes of a file, the words and the hops lent. output: the bytes lent for a plan. walk: as below.
-pub fn files(rt: &impl Print) {
-    each_case(
-        rt,
-        b"
+pub const FILES: &str = "\
 fault|  4|  4|   3|  0|  0|  1|  0|  0|  1|3 bytes:
 fault|  4|  4|   0|  0|  0|  1|  0|  0|  1|no bytes:
 fault|  4|  4|  19|  0|  0|  1|  0|  0|  1|19 bytes for 4 links:
@@ -88,45 +78,38 @@ fault|256|256|1028|  0|300|300|  8|  8|  8|card 300 to itself at link 0:
 lent|20|1023|65536|1,023 words:
 lent|20|1024|65535|65,535 bytes of hops:
 output|16389|16,389 bytes for a plan
-walk|4|16390|0|26|0|2|5|6|255|room for 255 cards
+walk|4|     | |26|0|2|5|6|255|room for 255 cards
 lent| 3|1024|65537|3 bytes and 65,537 bytes of hops:
-walk|4|16390|0| 3|0|2|0|0|257|a plan of 3 bytes and room for 257 cards",
-    );
-}
+walk|4|     | | 3|0|2|0|0|257|a plan of 3 bytes and room for 257 cards";
 
-// Plans of rings: the ring, a place where a byte is put anew (16390 is none), the byte, the bytes of the plan, and a walk's two cards.
+// Plans of rings: the ring, a place where a byte is put anew if it is, the byte, the bytes of the plan, and a walk's two cards.
 // walk: also the frames and hops counted so far, and the room for cards met.
-pub fn plans(rt: &impl Print) {
-    each_case(
-        rt,
-        b"
-changed|  4|16390|  0|  26| 0|  2|ring 4, whole
+pub const PLANS: &str = "\
+changed|  4|     |   |  26| 0|  2|ring 4, whole
 changed|  4|   24|  0|  26| 0|  2|ring 4, card 2 at 0
-changed|  4|16390|  0|  25| 0|  2|ring 4, a byte short
-changed|  4|16390|  0|  27| 0|  2|ring 4, a byte over
-changed|  4|16390|  0|   5| 0|  2|ring 4, 5 bytes
+changed|  4|     |   |  25| 0|  2|ring 4, a byte short
+changed|  4|     |   |  27| 0|  2|ring 4, a byte over
+changed|  4|     |   |   5| 0|  2|ring 4, 5 bytes
 changed|  4|    1|  1|  26| 0|  2|ring 4, 260 cards
 changed|  4|    5|  1|  26| 0|  2|ring 4, 258 columns
 changed|  4|    4|  3|  26| 0|  2|ring 4, 3 columns
 changed|  4|    6|  9|  26| 0|  2|ring 4, an end at 9
 changed|  4|   22|  4|  26| 0|  2|ring 4, 4 at bit 2
 changed|  4|   23|  3|  26| 0|  2|ring 4, card 1 at 3
-changed|256|16390|  0|5126| 0|128|ring 256, whole
+changed|256|     |   |5126| 0|128|ring 256, whole
 changed|256| 3078|  0|5126| 0|128|ring 256, card 128 byte 0 at 0
 changed|256| 1046|  0|5126| 0|128|ring 256, card 1 byte 0 at 0
 changed|256| 2069|255|5126|60| 70|ring 256, card 64 byte 15 at 255
-changed|  4|16390|  0|  26| 0|  4|ring 4, to 4
-changed|  4|16390|  0|  26| 4|  0|ring 4, from 4
-changed|  4|16390|  0|  26|4294967295|4294967295|ring 4, from 4,294,967,295 to itself
+changed|  4|     |   |  26| 0|  4|ring 4, to 4
+changed|  4|     |   |  26| 4|  0|ring 4, from 4
+changed|  4|     |   |  26|4294967295|4294967295|ring 4, from 4,294,967,295 to itself
 changed|  4|   24|  0|  26| 0|  4|ring 4, card 2 at 0, to 4
-changed|  4|16390|  0|  25| 0|  4|ring 4, a byte short, to 4
-walk|256|16390|0|5126|0|128|4294967295|0|256|frames full
-walk|256|16390|0|5126|9|  9|4294967295|0|256|frames full, to itself
-walk|256|16390|0|5126|0|128|4294967294|0|256|one frame left
-walk|256|16390|0|5126|0|128|0|4294967168|256|127 hops left
-walk|256|16390|0|5126|0|128|0|4294967167|256|128 hops left
-walk|256|16390|0|5126|9|  9|0|4294967295|256|hops full, to itself
+changed|  4|     |   |  25| 0|  4|ring 4, a byte short, to 4
+walk|256|     | |5126|0|128|4294967295|0|256|frames full
+walk|256|     | |5126|9|  9|4294967295|0|256|frames full, to itself
+walk|256|     | |5126|0|128|4294967294|0|256|one frame left
+walk|256|     | |5126|0|128|0|4294967168|256|127 hops left
+walk|256|     | |5126|0|128|0|4294967167|256|128 hops left
+walk|256|     | |5126|9|  9|0|4294967295|256|hops full, to itself
 walk|256| 1046|0|5126|2|  0|4294967295|4294967295|256|counts full, stuck
-walk|256|16390|0|5126|0|256|4294967295|4294967295|256|counts full, to card 256",
-    );
-}
+walk|256|     | |5126|0|256|4294967295|4294967295|256|counts full, to card 256";

@@ -2,37 +2,45 @@
 ghost use Rattle.std.specs.Prelude.{◌≤◌};
 
 use crate::calls::{planned, written};
-use crate::lines::number_to;
-use crate::say::say_text;
-use crate::shapes::wiring;
+use crate::lines::{cell, number_to};
+use crate::shapes::ring;
+use rack::limits::{LENT_HOPS, LENT_PLAN, LENT_WORDS};
+use std::io;
+
+// One byte more than the hops need.
+const MORE_HOPS: usize = 65537;
 
 // Planning with `w` words and `h` bytes of hops lent.
-pub fn planned_in(rt: &impl Print, file: &[u8], w: usize, h: usize)
+fn planned_in(rt: &impl Print, file: &[u8], w: usize, h: usize) -> io::Result<()>
     requires { (w ≤ 1024) × (h ≤ 65537) }
 {
-    let mut words = [7u64; 1024];
-    let mut hops = [7u8; 65537];
-    planned(rt, file, &mut words[0..w], &mut hops[0..h]);
+    let mut words = [7u64; LENT_WORDS];
+    let mut hops = [7u8; MORE_HOPS];
+    planned(rt, file, &mut words[..w], &mut hops[..h])
+}
+
+// Planning with all that is needed lent.
+pub fn planned_lent(rt: &impl Print, file: &[u8]) -> io::Result<()> {
+    planned_in(rt, file, LENT_WORDS, LENT_HOPS)
 }
 
 // Planning the first bytes of the file of a ring of four.
-pub fn lent(rt: &impl Print, line: &[u8]) {
-    say_text(rt, line, 4);
-    let file = wiring(b'r', 4, 4, false);
+pub fn lent(rt: &impl Print, line: &str) -> io::Result<()> {
+    rt.print(cell(line, 4))?;
     let size = number_to(line, 1, 20);
     planned_in(
         rt,
-        &file[0..size],
-        number_to(line, 2, 1024),
-        number_to(line, 3, 65537),
-    );
+        &ring(4)[..size],
+        number_to(line, 2, LENT_WORDS),
+        number_to(line, 3, MORE_HOPS),
+    )
 }
 
 // Writing the plan of that ring into a lent output.
-pub fn output(rt: &impl Print, line: &[u8]) {
-    say_text(rt, line, 2);
-    let file = wiring(b'r', 4, 4, false);
-    let mut plan = [7u8; 16390];
-    let room = number_to(line, 1, 16390);
-    written(rt, &file[0..20], &mut plan[0..room]);
+pub fn output(rt: &impl Print, line: &str) -> io::Result<()> {
+    rt.print(cell(line, 2))?;
+    let mut plan = [7u8; LENT_PLAN];
+    let room = number_to(line, 1, LENT_PLAN);
+    written(rt, &ring(4)[..20], &mut plan[..room])?;
+    Ok(())
 }

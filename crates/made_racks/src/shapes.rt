@@ -1,9 +1,48 @@
-// Wirings by rules: the two ends of link `i` of a rack, and the wiring file of a whole rack. A rule goes by the first letter of its name
-// in the cases.
-ghost use Rattle.std.specs.Prelude.{◌<◌};
+// Wirings by rules: the two ends of link `i` of a rack, and the wiring file of a whole rack.
+ghost use Rattle.std.specs.Prelude.{◌+◌, ◌<◌, ◌≤◌};
 
+use rack::bytes::put_number;
+
+// A file of at most 2,049 links, with zeros behind it.
+pub const LENT_FILE: usize = 8200;
+
+// How the cards are linked.
 #[derive(Clone, Copy)]
-struct Ends(usize, usize);
+pub enum Rule {
+    Ring,
+    Extra,
+    Cube,
+    Grid,
+    Star,
+    Two,
+    Sixteen,
+    Parts,
+    Tree,
+}
+
+// A name that is no rule's.
+#[derive(Clone, Copy, Debug)]
+pub struct UnknownRule;
+
+// A rule by its name in the cases. A chain is a ring with a link less; with more links than a tree has, cards hang loose.
+impl TryFrom<&str> for Rule {
+    type Error = UnknownRule;
+
+    fn try_from(name: &str) -> Result<Rule, UnknownRule> {
+        match name {
+            "chain" | "ring" => Ok(Rule::Ring),
+            "extra" => Ok(Rule::Extra),
+            "hypercube" => Ok(Rule::Cube),
+            "grid" => Ok(Rule::Grid),
+            "star" => Ok(Rule::Star),
+            "2 by 3" => Ok(Rule::Two),
+            "16 by 128" => Ok(Rule::Sixteen),
+            "parts" => Ok(Rule::Parts),
+            "tree" | "loose" => Ok(Rule::Tree),
+            _ => Err(UnknownRule),
+        }
+    }
+}
 
 // A number below 32,768 made from `x` by a linear congruential rule.
 fn scattered(x: usize) -> usize
@@ -15,84 +54,57 @@ fn scattered(x: usize) -> usize
 
 // The remainder, and 0 for a divisor 0.
 fn rest(x: usize, by: usize) -> usize {
-    if by == 0 {
-        return 0;
-    }
-    x % by
+    x.checked_rem(by).unwrap_or(0)
 }
 
 // The cards in a row, and behind it one link more.
-fn extra_link(n: usize, i: usize) -> Ends
+fn extra_link(n: usize, i: usize) -> (usize, usize)
     requires { i < 4096 }
 {
-    if i + 1 == n {
-        return Ends(100, 180);
-    }
-    Ends(i, i + 1)
+    if i + 1 == n { (100, 180) } else { (i, i + 1) }
 }
 
 // Bit `i / 128` of 8, at the card that has the bits of `i % 128` beside it; links from 1,024 on are twins of those before.
-fn cube_link(i: usize) -> Ends
+fn cube_link(i: usize) -> (usize, usize)
     requires { i < 4096 }
 {
     let weight = 1usize << (i / 128 % 8);
     let others = i % 128;
-    let low = rest(others, weight);
-    if 128 < weight {
-        return Ends(0, 0);
-    }
-    if others < low {
-        return Ends(0, 0);
-    }
-    let card = others + (others - low);
-    Ends(card, card + weight)
+    let card = others + others / weight * weight;
+    (card, card + weight)
 }
 
 // 16 rows of 16 cards: 240 links along the rows, then 240 across.
-fn grid_link(i: usize) -> Ends
+fn grid_link(i: usize) -> (usize, usize)
     requires { i < 4096 }
 {
     if i < 240 {
         let card = i + i / 15;
-        return Ends(card, card + 1);
+        (card, card + 1)
+    } else {
+        (i - 240, i - 224)
     }
-    Ends(i - 240, i - 224)
 }
 
 // Two rows with no link between them.
-fn parts_link(n: usize, i: usize) -> Ends
+fn parts_link(n: usize, i: usize) -> (usize, usize)
     requires { i < 4096 }
 {
     if i + 1 < n / 2 {
-        return Ends(i, i + 1);
+        (i, i + 1)
+    } else {
+        (i + 1, i + 2)
     }
-    Ends(i + 1, i + 2)
 }
 
 // A tree, each card on one with a lower number, and behind it links between any cards.
-fn tree_link(n: usize, i: usize) -> Ends
+fn tree_link(n: usize, i: usize) -> (usize, usize)
     requires { i < 4096 }
 {
     if i + 1 < n {
-        return Ends(rest(scattered(i), i + 1), i + 1);
-    }
-    Ends(rest(scattered(2 * i), n), rest(scattered(2 * i + 1), n))
-}
-
-// Link `i` by a rule. Cards are numbered as the rule says: a hypercube's by their bits, a grid's by its rows of 16.
-fn link(rule: u8, n: usize, i: usize) -> Ends
-    requires { i < 4096 }
-{
-    match rule {
-        b'c' | b'r' => Ends(i, rest(i + 1, n)),
-        b'e' => extra_link(n, i),
-        b'h' => cube_link(i),
-        b'g' => grid_link(i),
-        b's' => Ends(0, i + 1),
-        b'2' => Ends(i / 3, 2 + i % 3),
-        b'1' => Ends(i / 128, 16 + i % 128),
-        b'p' => parts_link(n, i),
-        _ => tree_link(n, i),
+        (rest(scattered(i), i + 1), i + 1)
+    } else {
+        (rest(scattered(2 * i), n), rest(scattered(2 * i + 1), n))
     }
 }
 
@@ -104,60 +116,79 @@ fn mixed_card(n: usize, c: usize) -> usize {
     rest(77 * c + 13, n)
 }
 
-// Link `i` of `m`; where cards and links are mixed, each once if 101 and `m` have no common divisor, every other one turned round.
-fn drawn(rule: u8, n: usize, m: usize, i: usize, mixed: bool) -> Ends
-    requires { (i < m) × (m < 4096) }
+// Puts the two ends of link `i` of `m` into a file.
+pub fn put_link(file: &mut [u8; LENT_FILE], m: usize, i: usize, ends: (usize, usize))
+    requires { (i < 2049) × (m ≤ 2049) }
 {
-    if !mixed {
-        return link(rule, n, i);
-    }
-    let place = rest(101 * i + 7, m);
-    if m <= place {
-        return Ends(0, 0);
-    }
-    let e = link(rule, n, place);
-    if i % 2 == 0 {
-        return Ends(mixed_card(n, e.0), mixed_card(n, e.1));
-    }
-    Ends(mixed_card(n, e.1), mixed_card(n, e.0))
+    put_number(file, 4 + 2 * i, ends.0);
+    put_number(file, 4 + 2 * m + 2 * i, ends.1);
 }
 
-// Puts a number of 16 bits at a place of a file, where there is room.
-pub fn put_number(file: &mut [u8; 8200], at: usize, v: usize) {
-    if 8198 < at {
-        return;
+// A rack by a rule; its cards and links may be mixed.
+#[derive(Clone, Copy)]
+pub struct Shape {
+    pub rule: Rule,
+    pub cards: usize,
+    pub links: usize,
+    pub is_mixed: bool,
+    pub ghost few: { links ≤ 2049 },
+}
+
+impl Shape {
+    // Link `i` by the rule. Cards are numbered as the rule says: a hypercube's by their bits, a grid's by its rows of 16.
+    fn plain_link(self, i: usize) -> (usize, usize)
+        requires { i < 4096 }
+    {
+        match self.rule {
+            Rule::Ring => (i, rest(i + 1, self.cards)),
+            Rule::Extra => extra_link(self.cards, i),
+            Rule::Cube => cube_link(i),
+            Rule::Grid => grid_link(i),
+            Rule::Star => (0, i + 1),
+            Rule::Two => (i / 3, 2 + i % 3),
+            Rule::Sixteen => (i / 128, 16 + i % 128),
+            Rule::Parts => parts_link(self.cards, i),
+            Rule::Tree => tree_link(self.cards, i),
+        }
     }
-    file[at] = (v % 256) as u8;
-    file[at + 1] = (v / 256 % 256) as u8;
-}
 
-// Puts the two ends of link `i` of `m`.
-pub fn put_link(file: &mut [u8; 8200], m: usize, i: usize, first: usize, second: usize)
-    requires { (i < 4096) × (m < 4096) }
-{
-    put_number(file, 4 + 2 * i, first);
-    put_number(file, 4 + 2 * m + 2 * i, second);
-}
+    // Link `i`; where cards and links are mixed, each once if 101 and the number of links have no common divisor, every other one turned
+    // round.
+    fn link(self, i: usize) -> (usize, usize)
+        requires { i < self.links }
+    {
+        if !self.is_mixed {
+            return self.plain_link(i);
+        }
+        let (first, second) = self.plain_link((101 * i + 7) % self.links);
+        let ends = (
+            mixed_card(self.cards, first),
+            mixed_card(self.cards, second),
+        );
+        if i % 2 == 0 { ends } else { (ends.1, ends.0) }
+    }
 
-// Puts all links.
-fn put_links(file: &mut [u8; 8200], rule: u8, n: usize, m: usize, mixed: bool)
-    requires { m < 4096 }
-{
-    let mut i: usize = 0;
-    while i < m {
-        let e = drawn(rule, n, m, i, mixed);
-        put_link(file, m, i, e.0, e.1);
-        i += 1;
+    // The wiring file of the rack, with zeros behind it.
+    pub fn wiring(self) -> [u8; LENT_FILE] {
+        let mut file = [0u8; LENT_FILE];
+        put_number(&mut file, 0, self.cards);
+        put_number(&mut file, 2, self.links);
+        for i in 0..self.links {
+            put_link(&mut file, self.links, i, self.link(i));
+        }
+        file
     }
 }
 
-// The wiring file of a rack, with zeros behind it.
-pub fn wiring(rule: u8, n: usize, m: usize, mixed: bool) -> [u8; 8200]
-    requires { m < 4096 }
+// The wiring file of a ring, with zeros behind it.
+pub fn ring(n: usize) -> [u8; LENT_FILE]
+    requires { n ≤ 256 }
 {
-    let mut file = [0u8; 8200];
-    put_number(&mut file, 0, n);
-    put_number(&mut file, 2, m);
-    put_links(&mut file, rule, n, m, mixed);
-    file
+    let shape = Shape {
+        rule: Rule::Ring,
+        cards: n,
+        links: n,
+        is_mixed: false,
+    };
+    shape.wiring()
 }

@@ -1,77 +1,81 @@
 // Wiring files, sound and faulty: each is planned, its plan is written, and if it was accepted, read and walked.
+ghost use Rattle.std.specs.Prelude.{◌<◌, ◌≤◌};
+
 use crate::calls::{addressed, read, stepped, walked, walked_to_each, written};
-use crate::lent::planned_in;
-use crate::lines::{letter, number, number_to};
-use crate::say::say_text;
-use crate::shapes::{put_link, put_number, wiring};
+use crate::lent::planned_lent;
+use crate::lines::{cell, number, number_to};
+use crate::shapes::{LENT_FILE, Rule, Shape, put_link, ring};
 use forwarder::walk::Tally;
+use rack::bytes::put_number;
+use rack::limits::LENT_PLAN;
+use std::io;
 
 // Reads a plan, walks one frame on it and one to each card, takes a step, and asks for an address.
-fn used(rt: &impl Print, plan: &[u8], n: u32, from: u32, goal: u32) {
+fn used(rt: &impl Print, plan: &[u8], n: u32, from: u32, goal: u32) -> io::Result<()> {
     let mut met = [7u16; 256];
     let none = Tally { frames: 0, hops: 0 };
-    read(rt, plan);
-    walked(rt, plan, from, goal, none, &mut met);
-    walked_to_each(rt, plan, n, from);
-    stepped(rt, plan, from, goal);
-    addressed(rt, plan, goal);
+    read(rt, plan)?;
+    walked(rt, plan, from, goal, none, &mut met)?;
+    walked_to_each(rt, plan, n, from)?;
+    stepped(rt, plan, from, goal)?;
+    addressed(rt, plan, goal)
 }
 
 // A wiring file, planned in lent buffers that are not zero, written, read and walked.
-fn file_line(rt: &impl Print, file: &[u8], n: u32, from: u32, goal: u32) {
-    planned_in(rt, file, 1024, 65536);
-    let mut plan = [7u8; 16390];
-    let size = written(rt, file, &mut plan);
-    if size == 0 {
-        return;
-    }
-    if size <= 16390 {
-        used(rt, &plan[0..size], n, from, goal);
+fn file_line(rt: &impl Print, file: &[u8], n: u32, from: u32, goal: u32) -> io::Result<()> {
+    planned_lent(rt, file)?;
+    let mut plan = [7u8; LENT_PLAN];
+    let size = written(rt, file, &mut plan)?;
+    match size.and_then(|size| plan.get(..size)) {
+        Some(plan) => used(rt, plan, n, from, goal),
+        None => Ok(()),
     }
 }
 
 // A rack by its rule.
-pub fn rack(rt: &impl Print, line: &[u8]) {
-    say_text(rt, line, 7);
+pub fn rack(rt: &impl Print, line: &str) -> io::Result<()> {
+    rt.print(cell(line, 7))?;
+    let Ok(rule) = Rule::try_from(cell(line, 1)) else {
+        return Ok(());
+    };
     let links = number_to(line, 3, 2049);
-    let size = 4 + 4 * links;
-    let mixed = letter(line, 4) == b'm';
-    let file = wiring(letter(line, 1), number_to(line, 2, 65535), links, mixed);
+    let shape = Shape {
+        rule,
+        cards: number_to(line, 2, 65535),
+        links,
+        is_mixed: cell(line, 4) == "mixed",
+    };
     file_line(
         rt,
-        &file[0..size],
+        &shape.wiring()[..4 + 4 * links],
         number(line, 2),
         number(line, 5),
         number(line, 6),
-    );
+    )
 }
 
-// The file of a ring with another number of cards, and two links put anew.
-fn faulty_file(line: &[u8]) -> [u8; 8200] {
+// The link in cell `k`, and its ends in the two behind it, put into the file of a ring of `n` cards.
+fn put_cells(file: &mut [u8; LENT_FILE], n: usize, line: &str, k: usize)
+    requires { (n ≤ 256) × (k < 100) }
+{
+    let first = number_to(line, k + 1, 65535);
+    let second = number_to(line, k + 2, 65535);
+    put_link(file, n, number_to(line, k, 255), (first, second));
+}
+
+// The first bytes of the file of a ring with another number of cards, and two links put anew.
+pub fn fault(rt: &impl Print, line: &str) -> io::Result<()> {
+    rt.print(cell(line, 10))?;
     let n = number_to(line, 1, 256);
-    let mut file = wiring(b'r', n, n, false);
+    let mut file = ring(n);
     put_number(&mut file, 0, number_to(line, 2, 65535));
-    put_link(
-        &mut file,
-        n,
-        number_to(line, 4, 255),
-        number_to(line, 5, 65535),
-        number_to(line, 6, 65535),
-    );
-    put_link(
-        &mut file,
-        n,
-        number_to(line, 7, 255),
-        number_to(line, 8, 65535),
-        number_to(line, 9, 65535),
-    );
-    file
-}
-
-// The first bytes of such a file.
-pub fn fault(rt: &impl Print, line: &[u8]) {
-    say_text(rt, line, 10);
-    let file = faulty_file(line);
-    let size = number_to(line, 3, 8200);
-    file_line(rt, &file[0..size], number(line, 1), 0, 1);
+    put_cells(&mut file, n, line, 4);
+    put_cells(&mut file, n, line, 7);
+    file_line(
+        rt,
+        &file[..number_to(line, 3, LENT_FILE)],
+        number(line, 1),
+        0,
+        1,
+    )
 }

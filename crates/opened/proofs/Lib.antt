@@ -1,3 +1,2 @@
-pub mod Openings
 pub mod Seen
 pub mod Promises

@@ -11,8 +11,7 @@ use borrow.Author.Tests.{eq-eqb, ne_eqb}
 use Rattle.rack.specs.PlanFile.{plan_cards, plan_links, plan_columns, plan_wiring}
 use Rattle.rack.proofs.Logic.{not_true_false, by_eq, by_lt}
 use Rattle.reader.specs.Plan.{layout_holds, plan_refusal}
-use Rattle.reader.specs.Reading.{card_refusal, address_refusal, PartIs, ReadSays}
-use Rattle.reader.specs.declared.layout.Sizes.{Sizes}
+use Rattle.reader.specs.Reading.{Sizes, card_refusal, address_refusal, PartIs, ReadSays}
 use Rattle.reader.proofs.AddressPart.{refused_before as card_refused_before, card_outside, card_inside, refused_part}
 use Rattle.forwarder.specs.Calls.{step_refusal}
 use Rattle.totals.specs.Totals.{total_hops}
@@ -25,12 +24,11 @@ use Rattle.crossing.specs.Crossing.{FrameStepSays}
 use Rattle.callers.specs.Walking.{caller_walk_refusal, CallerWalkSays}
 use Rattle.conference.specs.Conference.{three_refusal, conference_refusal, ConferenceIs}
 use Rattle.carried.specs.Carried.{carries, address_refusal_with, WalkWithArrival}
-use Rattle.opened.specs.Opening.{opened_bytes, OpeningSays}
+use Rattle.opened.specs.Opening.{Opened, opened_bytes, OpeningSays}
 use Rattle.opened.specs.Promises.{SizesCarried, SumCarried, CarriesExactly, OpeningWhole, RefusedOpeningEmpty}
 use Rattle.opened.specs.Promises.{RefusedOpening, OtherSizes, OtherSum, SumUnseen}
 use Rattle.opened.specs.Promises.{OpenedFrameArrives, OpenedStepAsBytes, OpenedWalkAsBytes, OpenedConferenceAsBytes, OpenedChangeAsBytes, ChangedOpens}
 use Rattle.opened.specs.Promises.{OpenedAddressAsBytes, OpenedAddressRefused}
-use Rattle.opened.specs.declared.Opened.{Opened}
 use Rattle.opened.proofs.Seen.{ps, carried, refused_where_13_is_tested, sizes_carry, carry_sizes, carried_twelve, layout_whole, read_whole, whole_read}
 
 -- THE TEST of the sizes carried

@@ -24,10 +24,9 @@ use Rattle.callers.specs.Walking.{caller_walk_refusal}
 use Rattle.conference.proofs.Answers.{refused_before as three_refused_before}
 use Rattle.carried.specs.Carried.{carries, address_refusal_with}
 use Rattle.carried.proofs.Carrying.{carried_bytes_whole, carried_bytes_none}
-use Rattle.opened.specs.Opening.{opened_bytes}
+use Rattle.opened.specs.Opening.{Opened, opened_bytes}
 use Rattle.opened.specs.Promises.{SizesCarried}
 use Rattle.opened.specs.Promises.{Where13IsTested, TwelveInEveryCall}
-use Rattle.opened.specs.declared.Opened.{Opened}
 
 -- REFUSED by what reading with the sum says: so is every call that tests 13
 module _ (p : Opened) (x : ℕ) (n : x ≢ 0) (e : total_refusal (opened_bytes p) p.total ≡ x) where

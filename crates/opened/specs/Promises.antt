@@ -8,18 +8,13 @@ use Rattle.reader.specs.Plan.{layout_holds, plan_refusal}
 use Rattle.reader.specs.Reading.{part_unless, AddressSays}
 use Rattle.forwarder.specs.Calls.{step_refusal, lent_met}
 use Rattle.plan_totals.specs.Summed.{plan_total, total_refusal}
-use Rattle.last_card.specs.Calls.{add_card_refusal, take_off_refusal, AddSays, TakeOffSays}
-use Rattle.last_card.specs.declared.SummedPlan.{SummedPlan}
-use Rattle.crossing.specs.Crossing.{FrameStepSays}
-use Rattle.crossing.specs.declared.FrameStep.{FrameStep}
+use Rattle.last_card.specs.Calls.{SummedPlan, add_card_refusal, take_off_refusal, AddSays, TakeOffSays}
+use Rattle.crossing.specs.Crossing.{FrameStep, FrameStepSays}
 use Rattle.traffic.specs.declared.Traffic.{Traffic}
-use Rattle.callers.specs.Walking.{caller_walk_refusal, CallerWalkSays, CallerFrame, CallerCanTake, CallerArrived}
-use Rattle.callers.specs.declared.CallerWalk.{CallerWalk}
-use Rattle.conference.specs.Conference.{ConferenceSays}
-use Rattle.conference.specs.declared.Conference.{Conference}
+use Rattle.callers.specs.Walking.{CallerWalk, caller_walk_refusal, CallerWalkSays, CallerFrame, CallerCanTake, CallerArrived}
+use Rattle.conference.specs.Conference.{Conference, ConferenceSays}
 use Rattle.carried.specs.Carried.{carries, address_refusal_with, AddressSaysWith, conference_refusal_with, ConferenceSaysWith, WalkWithArrival}
-use Rattle.opened.specs.Opening.{opened_bytes, OpeningSays}
-use Rattle.opened.specs.declared.Opened.{Opened}
+use Rattle.opened.specs.Opening.{Opened, opened_bytes, OpeningSays}
 
 -- the sizes carried with the bytes are those in them
 pub record SizesCarried (p : Opened) : Type 0 where

@@ -14,7 +14,7 @@ use Rattle.rack.specs.Columns.{column_count, address, Embedding}
 use Rattle.rack.specs.Refusals.{most_parallel, refusal, links_refusal, rack_refusal, wiring_refusal}
 use Rattle.rack.specs.Promises.{LinksJoin}
 use Rattle.rack.proofs.Logic.{not_true_false, by_lt}
-use Rattle.rack.proofs.Lists.{none_count, in_getD}
+use Rattle.rack.proofs.Lists.{none_count, in_get_or}
 use Rattle.rack.proofs.Paths.{Ends, joins_ends}
 use Rattle.rack.proofs.Crossing.{Rack}
 use Rattle.rack.proofs.Refusals.{JoinsCards, or_else_clear, or_else_second}
@@ -72,7 +72,7 @@ module _ {w : Wiring} {c : ℕ} {v : Wiring} (pd : Pendant w c v) where
 
   links_added : (links_refusal w).number ≡ 0 → (links_refusal v).number ≡ 0
   unfolding LinksJoin
-  links_added h = (links_join v).1 (λ i l. let j = all_join pd (link_at v i) (in_getD v.links i (link 0 0) l) in (j.0, j.1, j.2, few i l))
+  links_added h = (links_join v).1 (λ i l. let j = all_join pd (link_at v i) (in_get_or v.links i (link 0 0) l) in (j.0, j.1, j.2, few i l))
     where
       few : (i : ℕ) → i < link_count v → Few v i
       few i l =
@@ -83,7 +83,7 @@ module _ {w : Wiring} {c : ℕ} {v : Wiring} (pd : Pendant w c v) where
 
   links_removed : (links_refusal v).number ≡ 0 → (links_refusal w).number ≡ 0
   unfolding LinksJoin
-  links_removed h = (links_join w).1 (λ i l. let j = pd.joined (link_at w i) (in_getD w.links i (link 0 0) l) in (j.0, j.1, j.2, few i l))
+  links_removed h = (links_join w).1 (λ i l. let j = pd.joined (link_at w i) (in_get_or w.links i (link 0 0) l) in (j.0, j.1, j.2, few i l))
     where
       few : (i : ℕ) → i < m → Few w i
       few i l = let k = ((links_join v).0 h i (omega (arith, count_links))).3 in rw (link_before i l, take_before i (omega arith)) at k

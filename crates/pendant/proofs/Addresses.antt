@@ -16,7 +16,7 @@ use Rattle.rack.specs.Hops.{hops, connected}
 use Rattle.rack.specs.Columns.{columns, column_count, address, hamming, Embedding}
 use Rattle.rack.proofs.Logic.{by_eq, by_lt}
 use Rattle.rack.proofs.Lists.{count_snoc}
-use Rattle.rack.proofs.Tables.{length_tabulate, get_d_tabulate, tabulate_getD, map_tabulate, tabulate_snoc}
+use Rattle.rack.proofs.Tables.{length_tabulate, get_or_tabulate, tabulate_get_or, map_tabulate, tabulate_snoc}
 use Rattle.rack.proofs.Hamming.{hamming_ext, hamming_sym, hamming_same}
 use Rattle.rack.proofs.Hops.{hops_self, hops_sym}
 use Rattle.rack.proofs.Columns.{past_columns, column_long}
@@ -55,8 +55,8 @@ module _ {w : Wiring} {c : ℕ} {v : Wiring} (pd : Pendant w c v) (whole : conne
       ap (λ (xs : List (List Bool)). get_or xs j []) (columns_pendant pd whole)
       ∙ get_or-append (map (longer c) cs) (last_column n ∷ []) [] j (omega (arith, length-map cs (longer c)))
       ∙ ap (λ (xs : List (List Bool)). get_or xs j [])
-      (ap (map (longer c)) (sym (tabulate_getD cs [])) ∙ map_tabulate (longer c) (length cs) (λ i. get_or cs i []))
-      ∙ get_d_tabulate (length cs) (λ i. longer c (get_or cs i [])) j [] h
+      (ap (map (longer c)) (sym (tabulate_get_or cs [])) ∙ map_tabulate (longer c) (length cs) (λ i. get_or cs i []))
+      ∙ get_or_tabulate (length cs) (λ i. longer c (get_or cs i [])) j [] h
 
   column_at : get_or (columns v) k [] ≡ last_column n
   unfolding column_count
@@ -78,7 +78,7 @@ module _ {w : Wiring} {c : ℕ} {v : Wiring} (pd : Pendant w c v) (whole : conne
       last =
           address_in v a k (last_column n) column_at
           ∙ get_or-append (tabulate n (λ b. false)) (true ∷ []) false a (omega (arith, length_tabulate {A = Bool} n (λ b. false)))
-          ∙ get_d_tabulate n (λ b. false) a false h ∙ sym (past_columns w a k (omega arith))
+          ∙ get_or_tabulate n (λ b. false) a false h ∙ sym (past_columns w a k (omega arith))
 
       past : k ≤ j → j ≢ k → address v a j ≡ address w a j
       past l d = past_columns v a j (omega (arith, count_pendant)) ∙ sym (past_columns w a j l)

@@ -16,7 +16,7 @@ use Rattle.rack.specs.Hops.{hops, connected}
 use Rattle.rack.specs.Columns.{nearer_first, side, column, same_column, add_column, add_columns, columns}
 use Rattle.rack.proofs.Logic.{true_not_false, not_true_false, by_bool, differ_self}
 use Rattle.rack.proofs.Lists.{In, any_in, map_in}
-use Rattle.rack.proofs.Tables.{get_d_tabulate, tabulate_ext, tabulate_snoc}
+use Rattle.rack.proofs.Tables.{get_or_tabulate, tabulate_ext, tabulate_snoc}
 use Rattle.rack.proofs.Hops.{hops_self}
 use Rattle.rack.proofs.Paths.{Ends}
 use Rattle.rack.proofs.Columns.{same_column_eq, same_column_self}
@@ -97,7 +97,7 @@ module _ {w : Wiring} {c : ℕ} {v : Wiring} (pd : Pendant w c v) (whole : conne
       column_snoc l
       ∙ ap₂ (λ (xs : List Bool) (b : Bool). xs ++ (b ∷ []))
       (tabulate_ext n (side v l) (side w l) (λ a h. ap₂ differ (nearer_old l m a h) (nearer_old l m 0 zero_inside)))
-      (ap₂ differ (nearer_new l m) (nearer_old l m 0 zero_inside) ∙ sym (get_d_tabulate n (side w l) c false pd.inside))
+      (ap₂ differ (nearer_new l m) (nearer_old l m 0 zero_inside) ∙ sym (get_or_tabulate n (side w l) c false pd.inside))
 
   columns_old : (ls : List Link) → ((l : Link) → In l ls → In l w.links) → (cs : List (List Bool))
       → add_columns v ls (map (longer c) cs) ≡ map (longer c) (add_columns w ls cs)
@@ -143,7 +143,7 @@ module _ {w : Wiring} {c : ℕ} {v : Wiring} (pd : Pendant w c v) (whole : conne
       no_longer y e =
           let s = snoc_parts (tabulate n (λ a. false)) y true (get_or y c false) e in
           true_not_false (get_or y c false) (sym s.1)
-          (ap (λ (x : List Bool). get_or x c false) (sym s.0) ∙ get_d_tabulate n (λ a. false) c false pd.inside)
+          (ap (λ (x : List Bool). get_or x c false) (sym s.0) ∙ get_or_tabulate n (λ a. false) c false pd.inside)
 
       go : (x : List Bool) × In x (map (longer c) ys) × (same_column (last_column n) x ≡ true) → ⊥
       go (x, m, t) = let r = map_in (longer c) ys x m in no_longer r.0 (same_column_eq (last_column n) x t ∙ sym r.2)

@@ -12,7 +12,7 @@ use borrow.Author.Tests.{eqb-true, eqb-false, eq-eqb, ne_eqb}
 use Rattle.rack.specs.Lists.{one, count, lowest}
 use Rattle.rack.specs.Wiring.{Link, Wiring, link, wiring, link_count, link_at, touches, other_end}
 use Rattle.rack.proofs.Logic.{nor_left, nor_right}
-use Rattle.rack.proofs.Lists.{In, in_left, in_right, in_getD, getD_in, none_count, count_none, count_snoc, count_le_length}
+use Rattle.rack.proofs.Lists.{In, in_left, in_right, in_get_or, get_or_in, none_count, count_none, count_snoc, count_le_length}
 use Rattle.rack.proofs.Tables.{lowest_is, lowest_passes, lowest_first}
 use Rattle.rack.proofs.Paths.{Ends, touches_ends, ends_touch, link_joins}
 use Rattle.rack.proofs.Crossing.{Rack, link_inside}
@@ -74,7 +74,7 @@ module _ (v : Wiring) where
         some = omega arith;
         touched = rw f at (lowest_passes m touching (omega arith));
         others = λ l k.
-            let r = getD_in front (link 0 0) l k in
+            let r = get_or_in front (link 0 0) l k in
             let before : r.0 < m - 1 = omega (arith, length_front, r.1) in
             ap (touches at) (sym r.2 ∙ get_or-take (m - 1) v.links r.0 (link 0 0) before) ∙ lowest_first m touching r.0 (omega arith);
       }
@@ -86,7 +86,7 @@ module _ (v : Wiring) where
       let e : lowest m touching ≡ m - 1 =
       lowest_is m touching (m - 1) (omega arith)
       (λ j l. ap (touches at) (sym (get_or-take (m - 1) v.links j (link 0 0) l))
-      ∙ h.others (get_or front j (link 0 0)) (in_getD front j (link 0 0) (omega (arith, length_front))))
+      ∙ h.others (get_or front j (link 0 0)) (in_get_or front j (link 0 0) (omega (arith, length_front))))
       (λ l. h.touched) in
       eq-eqb (suc (lowest m touching)) m (omega (arith, h.some))
 

@@ -4,15 +4,13 @@ use Rattle.std.specs.Prelude.{List, ◌++◌, ℕ, ◌+◌, ◌-◌, ◌<◌}
 use Rattle.rack.specs.Lists.{blocks}
 use Rattle.rack.specs.Buffers.{two_bytes}
 use Rattle.rack.specs.PlanFile.{plan_cards, plan_links, plan_columns}
-use Rattle.reader.specs.Reading.{LaidOut}
-use Rattle.reader.specs.declared.layout.Sizes.{Sizes}
+use Rattle.rack.specs.declared.views.Plan.{Plan}
 use Rattle.plan_parts.specs.Parts.{first_ends, second_ends, row, row_with_one}
 
--- all that is asked of a plan whose reading was not refused: a layout, fewer columns than cards, and a column where there is a link
-pub record Known (ps : List ℕ) (s : Sizes) : Type 0 where
-  pub laid_out : LaidOut ps s
-  pub few : s.columns < s.cards
-  pub crossed : 0 < s.links → 0 < s.columns
+-- all that is asked of a plan whose reading was not refused, beside its sizes: fewer columns than cards, and a column where there is a link
+pub record Known (p : Plan) : Type 0 where
+  pub few : p.columns < p.cards
+  pub crossed : 0 < p.links → 0 < p.columns
 
 -- with card n on a new last link from card c
 unfoldable pub more_bytes : List ℕ → (c : ℕ) → List ℕ

@@ -13,13 +13,12 @@ use borrow.Author.Tests.{eqb-true}
 use Rattle.rack.specs.Lists.{differ, one}
 use Rattle.rack.specs.Wiring.{Link, Wiring, link, link_count, link_at}
 use Rattle.rack.specs.Columns.{hamming}
-use Rattle.rack.specs.PlanFile.{plan_wiring, plan_bit}
+use Rattle.rack.specs.PlanFile.{Sized, plan_wiring, plan_bit}
 use Rattle.rack.proofs.Logic.{and_left, and_right}
-use Rattle.rack.proofs.Lists.{In, in_getD}
+use Rattle.rack.proofs.Lists.{In, in_get_or}
 use Rattle.rack.proofs.Crossing.{one_crossing}
 use Rattle.rack.proofs.WiringFile.{wiring_at_cards, wiring_at_count}
 use Rattle.plan_tests.specs.Tests.{crossed, columns_in_order, cards_covered}
-use Rattle.plan_tests.specs.Sizes.{Sized}
 use Rattle.plan_tests.proofs.OneColumn.{lowest_crossing}
 use Rattle.plan_tests.proofs.OrderedLinks.{counted}
 use Rattle.card_sets.specs.Sets.{ColumnWords}
@@ -61,7 +60,7 @@ module _ (ps : List ℕ) (n m k : ℕ) (z : Sized ps n m k) (order : columns_in_
 
   module _ (i : ℕ) (l : i < m) where
     split : (crossed k r (link_at w i) < k) × (differ (r (link_at w i).first (crossed k r (link_at w i))) (r (link_at w i).second (crossed k r (link_at w i))) ≡ true)
-    split = crossed_split k r (link_at w i) (order_ones k r 0 w.links order (link_at w i) (in_getD w.links i (link 0 0) (counted ps n m k z i l)))
+    split = crossed_split k r (link_at w i) (order_ones k r 0 w.links order (link_at w i) (in_get_or w.links i (link 0 0) (counted ps n m k z i l)))
 
     module _ (j : ℕ) (is : j ≡ crossed k r (link_at w i)) where
       pub column_inside : j < k

@@ -1,7 +1,6 @@
 -- The set of all cards and the sets of single cards, card by card, and the test that sets are full, word by word. Assumes nothing.
 use mathlib.Core.Path.{◌≡◌, refl, sym, ap, ap₂, ◌∙◌}
-use mathlib.Core.Bool.{Bool, true, false, cond}
-use mathlib.Core.Logic.{◌≢◌}
+use mathlib.Core.Bool.{Bool, true, cond}
 use mathlib.Core.List.{List, [], ◌∷◌}
 use Prim.Native.Nat.{ℕ, zero, suc, ◌+◌, ◌*◌, ◌/◌, ◌%◌, ◌^◌, ◌≤◌, ◌<◌}
 use native.Mathlib.Nat.{one-mul, pow-succ'}
@@ -13,7 +12,7 @@ use lib.Seq.{get_or-set_same, get_or-set_other}
 use borrow.Author.Tests.{eqb-true, eq-eqb, ne_eqb}
 use Rattle.rack.specs.Limits.{lent_words, most_cards}
 use Rattle.rack.specs.Lists.{all, range}
-use Rattle.rack.proofs.Logic.{by_eq, not_true_false}
+use Rattle.rack.proofs.Logic.{by_bool, by_eq, not_true_false, true_not_false}
 use Rattle.rack.proofs.Tables.{all_below, below_all}
 use Rattle.rack.proofs.Bits.{word_weight}
 use Rattle.card_sets.specs.Sets.{set_word}
@@ -25,21 +24,30 @@ module _ (n : ℕ) (f ws : List ℕ) (full : FullWords n f) where
   abbrev row : ℕ → Bool
   row a = all (λ t. eqb (get_or ws (4 * a + t) 0) (full_word n t)) (range 4)
 
-  pub words_agree : ((i : ℕ) → i < 4 * n → get_or ws i 0 ≡ get_or f (i % 4) 0) → true ≡ words_full n ws
+  words_agree : ((i : ℕ) → i < 4 * n → get_or ws i 0 ≡ get_or f (i % 4) 0) → words_full n ws ≡ true
   unfolding words_full
   words_agree h =
-      sym (below_all n row (λ a l. below_all 4 (λ t. eqb (get_or ws (4 * a + t) 0) (full_word n t)) (λ t g.
+      below_all n row (λ a l. below_all 4 (λ t. eqb (get_or ws (4 * a + t) 0) (full_word n t)) (λ t g.
       let e : (4 * a + t) % 4 ≡ t = omega arith in
-      eq-eqb (get_or ws (4 * a + t) 0) (full_word n t) (h (4 * a + t) (omega arith) ∙ ap (λ (u : ℕ). get_or f u 0) e ∙ full t g))))
+      eq-eqb (get_or ws (4 * a + t) 0) (full_word n t) (h (4 * a + t) (omega arith) ∙ ap (λ (u : ℕ). get_or f u 0) e ∙ full t g)))
 
-  pub word_differs : (i : ℕ) → i < 4 * n → get_or ws i 0 ≢ get_or f (i % 4) 0 → false ≡ words_full n ws
+  agree_words : words_full n ws ≡ true → (i : ℕ) → i < 4 * n → get_or ws i 0 ≡ get_or f (i % 4) 0
   unfolding words_full
-  word_differs i l d =
-      sym (not_true_false (all row (range n)) (λ h. d
-      (let e : 4 * (i / 4) + i % 4 ≡ i = omega arith in
+  agree_words h i l =
+      let e : 4 * (i / 4) + i % 4 ≡ i = omega arith in
       let g : eqb (get_or ws (4 * (i / 4) + i % 4) 0) (full_word n (i % 4)) ≡ true =
       all_below 4 (λ t. eqb (get_or ws (4 * (i / 4) + t) 0) (full_word n t)) (all_below n row h (i / 4) (omega arith)) (i % 4) (omega arith) in
-      rw e at (eqb-true (get_or ws (4 * (i / 4) + i % 4) 0) (full_word n (i % 4)) g) ∙ sym (full (i % 4) (omega arith)))))
+      rw e at (eqb-true (get_or ws (4 * (i / 4) + i % 4) 0) (full_word n (i % 4)) g) ∙ sym (full (i % 4) (omega arith))
+
+  abbrev pub agrees : ℕ → Bool
+  agrees i = eqb (get_or ws i 0) (get_or f (i % 4) 0)
+
+  pub words_exactly : all agrees (range (4 * n)) ≡ words_full n ws
+  words_exactly =
+      by_bool (all agrees (range (4 * n)))
+      (λ t. t ∙ sym (words_agree (λ i l. eqb-true (get_or ws i 0) (get_or f (i % 4) 0) (all_below (4 * n) agrees t i l))))
+      (λ e. e ∙ sym (not_true_false (words_full n ws) (λ h.
+      true_not_false _ (below_all (4 * n) agrees (λ i l. eq-eqb (get_or ws i 0) (get_or f (i % 4) 0) (agree_words h i l))) e)))
 
 -- THE FULL SET, card by card
 full_none : (t : ℕ) → 0 ≡ full_word 0 t

@@ -1,18 +1,16 @@
 // The sets of cards that the cards cover, four words a card: the far sides of each link are joined to the sets of its ends.
-ghost use Rattle.std.specs.Prelude.{◌≡◌, [], true, cond, ◌≢◌, ℕ, ◌+◌, ◌*◌, ◌-◌, ◌<◌, ◌≤◌, get_or, length, replicate};
+ghost use Rattle.std.specs.Prelude.{◌≡◌, [], true, cond, ◌≢◌, ℕ, ◌+◌, ◌*◌, ◌-◌, ◌<◌, ◌≤◌, get_or, replicate};
 ghost use Rattle.rack.specs.Limits.{lent_words, most_cards};
 ghost use Rattle.rack.specs.Refusals.{links_refusal};
 ghost use Rattle.rack.specs.PlanFile.{plan_bit, plan_wiring};
 ghost use Rattle.plan_tests.specs.Tests.{cards_covered, columns_in_order};
-ghost use Rattle.plan_tests.specs.Sizes.{Sized};
 ghost use Rattle.plan_tests.specs.Crossed.{CrossedColumns};
 ghost use Rattle.card_sets.specs.Sets.{ColumnWords};
 ghost use Rattle.plan_cover.specs.Covers.{CoverWords, FullWords, SingleWords, WordsJoined, words_full};
 
 use card_sets::columns::column_sets;
-use rack::bytes::{first_end, second_end};
-use rack::limits::LENT_WORDS;
-use rack::plan_file::{address_size, address_start};
+use rack::limits::{LENT_WORDS, MOST_LINKS};
+use rack::views::Plan;
 
 // The set of all cards.
 fn full_words(n: usize) -> [u64; 4]
@@ -20,24 +18,19 @@ fn full_words(n: usize) -> [u64; 4]
     ensures { FullWords n result }
 {
     let mut full = [0u64; 4];
-    let mut c: usize = 0;
-    while c < n {
-        full[c / 64] = full[c / 64] + (1u64 << (c % 64));
-        c += 1;
+    for c in 0..n {
+        full[c / 64] += 1u64 << (c % 64);
     }
     full
 }
 
 // Writes to each card's words, which are zero, the set of that card alone.
-fn single_sets(n: usize, cover: &mut [u64])
+fn single_sets(n: usize, cover: &mut [u64; LENT_WORDS])
     requires { (n ≤ most_cards) × (cover.old ≡ replicate lent_words 0) }
-    ensures long { length cover.new ≡ lent_words }
-    ensures single { SingleWords n cover.new }
+    ensures { SingleWords n cover.new }
 {
-    let mut a: usize = 0;
-    while a < n {
+    for a in 0..n {
         cover[4 * a + a / 64] = 1u64 << (a % 64);
-        a += 1;
     }
 }
 
@@ -47,94 +40,74 @@ fn far_word(column: u64, full: u64, rest: bool) -> u64
     ensures is { result ≡ cond rest (full - column) column }
     ensures inside { result ≤ full }
 {
-    if rest {
-        return full - column;
-    }
-    column
+    if rest { full - column } else { column }
 }
 
 // Joins the far side of a link to the set of its end `p`, and the rest of the cards to that of its end `q`.
 fn join_sides(
-    columns: &[u64],
+    columns: &[u64; LENT_WORDS],
     full: &[u64; 4],
     p: usize,
     q: usize,
     j: usize,
     rest: bool,
-    cover: &mut [u64],
+    cover: &mut [u64; LENT_WORDS],
 )
-    requires { (length columns.now ≡ lent_words) × (length cover.old ≡ lent_words) × (p < most_cards) × (q < most_cards) × (p ≢ q) × (j < most_cards) × ((t : ℕ) → t < 4 → get_or columns.now (4 * j + t) 0 ≤ get_or full.now t 0) }
+    requires { (p < most_cards) × (q < most_cards) × (p ≢ q) × (j < most_cards) × ((t : ℕ) → t < 4 → get_or columns.now (4 * j + t) 0 ≤ get_or full.now t 0) }
     ensures { WordsJoined columns.now full.now p q j rest cover.old cover.new 4 }
 {
-    let mut t: usize = 0;
-    while t < 4 {
-        let all = full[t];
-        let side = far_word(columns[4 * j + t], all, rest);
-        cover[4 * p + t] = cover[4 * p + t] | side;
-        cover[4 * q + t] = cover[4 * q + t] | (all - side);
-        t += 1;
+    for t in 0..4 {
+        let side = far_word(columns[4 * j + t], full[t], rest);
+        cover[4 * p + t] |= side;
+        cover[4 * q + t] |= full[t] - side;
     }
 }
 
 // Whether card `c` has 1 in column `j`.
-fn card_bit(plan: &[u8], n: usize, m: usize, k: usize, c: usize, j: usize) -> bool
-    requires { Sized plan.now n m k × (c < n) × (j < k) }
-    ensures { result ≡ plan_bit plan.now c j }
+fn card_bit(plan: Plan<'_>, c: usize, j: usize) -> bool
+    requires { (c < plan.cards) × (j < plan.columns) }
+    ensures { result ≡ plan_bit plan.entry.bytes.now c j }
 {
-    let start = address_start(m, address_size(k), c);
-    (plan[start + j / 8] >> (j % 8)) % 2 == 1
+    (plan.bytes[plan.address_start(c) + j / 8] >> (j % 8)) % 2 == 1
 }
 
 // Joins the far sides of all links to the sets of their ends.
 fn join_links(
-    plan: &[u8],
-    n: usize,
-    m: usize,
-    k: usize,
-    crossed: &[u8],
-    columns: &[u64],
+    plan: Plan<'_>,
+    crossed: &[u8; MOST_LINKS],
+    columns: &[u64; LENT_WORDS],
     full: &[u64; 4],
-    cover: &mut [u64],
+    cover: &mut [u64; LENT_WORDS],
 )
-    requires { Sized plan.now n m k × ((links_refusal (plan_wiring plan.now)).number ≡ 0) × (columns_in_order k (plan_bit plan.now) 0 (plan_wiring plan.now).links ≡ true) × CrossedColumns k (plan_bit plan.now) (plan_wiring plan.now) crossed.now m × ColumnWords n k (plan_bit plan.now) columns.now × FullWords n full.now × CoverWords n k (plan_bit plan.now) [] cover.old }
-    ensures { CoverWords n k (plan_bit plan.now) (plan_wiring plan.now).links cover.new }
+    requires { ((links_refusal (plan_wiring plan.bytes.now)).number ≡ 0) × (columns_in_order plan.columns (plan_bit plan.bytes.now) 0 (plan_wiring plan.bytes.now).links ≡ true) × CrossedColumns plan.columns (plan_bit plan.bytes.now) (plan_wiring plan.bytes.now) crossed.now plan.links × ColumnWords plan.cards plan.columns (plan_bit plan.bytes.now) columns.now × FullWords plan.cards full.now × CoverWords plan.cards plan.columns (plan_bit plan.bytes.now) [] cover.old }
+    ensures { CoverWords plan.entry.cards plan.entry.columns (plan_bit plan.entry.bytes.now) (plan_wiring plan.entry.bytes.now).links cover.new }
 {
-    let mut i: usize = 0;
-    while i < m {
-        let p = first_end(plan, 6, m, i);
-        let q = second_end(plan, 6, m, i);
-        let j = crossed[i] as usize;
-        let rest = card_bit(plan, n, m, k, p, j);
-        join_sides(columns, full, p, q, j, rest, cover);
-        i += 1;
+    for i in 0..plan.links {
+        let p = plan.first_end(i);
+        let q = plan.second_end(i);
+        let j = usize::from(crossed[i]);
+        join_sides(columns, full, p, q, j, card_bit(plan, p, j), cover);
     }
 }
 
 // Whether every card's set is full.
-fn words_full(n: usize, full: &[u64; 4], cover: &[u64]) -> bool
-    requires { (n ≤ most_cards) × (length cover.now ≡ lent_words) × FullWords n full.now }
+fn words_full(n: usize, full: &[u64; 4], cover: &[u64; LENT_WORDS]) -> bool
+    requires { (n ≤ most_cards) × FullWords n full.now }
     ensures { result ≡ words_full n cover.now }
 {
-    let mut i: usize = 0;
-    while i < 4 * n {
-        if cover[i] != full[i % 4] {
-            return false;
-        }
-        i += 1;
-    }
-    true
+    (0..4 * n).all(|i| cover[i] == full[i % 4])
 }
 
 // Whether every card covers all cards, where the links cross their columns in order; `crossed` has the column of each.
-pub fn cards_covered(plan: &[u8], n: usize, m: usize, k: usize, crossed: &[u8]) -> bool
-    requires { Sized plan.now n m k × ((links_refusal (plan_wiring plan.now)).number ≡ 0) × (columns_in_order k (plan_bit plan.now) 0 (plan_wiring plan.now).links ≡ true) × CrossedColumns k (plan_bit plan.now) (plan_wiring plan.now) crossed.now m }
-    ensures { result ≡ cards_covered (plan_wiring plan.now) k (plan_bit plan.now) }
+pub fn cards_covered(plan: Plan<'_>, crossed: &[u8; MOST_LINKS]) -> bool
+    requires { ((links_refusal (plan_wiring plan.bytes.now)).number ≡ 0) × (columns_in_order plan.columns (plan_bit plan.bytes.now) 0 (plan_wiring plan.bytes.now).links ≡ true) × CrossedColumns plan.columns (plan_bit plan.bytes.now) (plan_wiring plan.bytes.now) crossed.now plan.links }
+    ensures { result ≡ cards_covered (plan_wiring plan.entry.bytes.now) plan.entry.columns (plan_bit plan.entry.bytes.now) }
 {
     let mut columns = [0u64; LENT_WORDS];
-    column_sets(plan, n, m, k, &mut columns);
-    let full = full_words(n);
+    column_sets(plan, &mut columns);
+    let full = full_words(plan.cards);
     let mut cover = [0u64; LENT_WORDS];
-    single_sets(n, &mut cover);
-    join_links(plan, n, m, k, crossed, &columns, &full, &mut cover);
-    words_full(n, &full, &cover)
+    single_sets(plan.cards, &mut cover);
+    join_links(plan, crossed, &columns, &full, &mut cover);
+    words_full(plan.cards, &full, &cover)
 }

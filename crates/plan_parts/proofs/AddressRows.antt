@@ -1,23 +1,18 @@
 -- Addresses copied into rows of other lengths, and zeros appended to a buffer that is zero there already. Assumes nothing.
 use mathlib.Core.Path.{◌≡◌, refl, sym, ap, ap₂, ◌∙◌}
-use mathlib.Core.Bool.{cond}
 use mathlib.Core.List.{List, [], ◌∷◌, ◌++◌, append_assoc, append-nil}
-use Prim.Native.Nat.{ℕ, zero, suc, ◌+◌, ◌*◌, ◌-◌, ◌/◌, ◌%◌, ◌^◌, ◌≤◌, ◌<◌}
-use native.Mathlib.Nat.{zero-add, suc-add, mod-lt}
+use Prim.Native.Nat.{ℕ, zero, suc, ◌+◌, ◌*◌, ◌-◌, ◌/◌, ◌%◌, ◌^◌, ◌≤◌, ◌<◌, min}
+use native.Mathlib.Nat.{zero-add, suc-add}
 use native.Mathlib.Omega.{arith}
-use lib.Dec.{ltb}
-use lib.Pow.{pow_pos, pow-lt}
 use lib.ListN.{length, get_or, set, drop, replicate, length-append, length-replicate, replicate-append-replicate}
 use lib.Seq.{get_or-take, get_or-drop, ext_get_or}
 use borrow.Author.Tests.{lt-ltb, le-ltb}
 use Rattle.rack.specs.Lists.{tabulate}
 use Rattle.rack.specs.Buffers.{Written, Appends}
-use Rattle.rack.specs.PlanFile.{plan_columns, address_size, addresses_start, address_start}
+use Rattle.rack.specs.PlanFile.{plan_columns, address_size, addresses_start, address_start, Sized}
 use Rattle.rack.proofs.Appending.{appended_byte}
 use Rattle.rack.proofs.Logic.{by_eq, by_lt}
-use Rattle.rack.proofs.Tables.{length_tabulate, get_d_tabulate}
-use Rattle.reader.specs.Reading.{LaidOut}
-use Rattle.reader.specs.declared.layout.Sizes.{Sizes}
+use Rattle.rack.proofs.Tables.{length_tabulate, get_or_tabulate}
 use Rattle.reader.proofs.Addresses.{address_counted}
 use Rattle.reader.proofs.Parts.{length_part}
 use Rattle.plan_parts.specs.Parts.{part, row_byte, row_with_one}
@@ -52,13 +47,6 @@ tabulate_zeros : (n z : ℕ) (f : ℕ → ℕ) → ((t : ℕ) → n ≤ t → f 
 tabulate_zeros zero z f h = rw (zero-add z) (zeros_tabulate z f (λ t. h t (omega arith)))
 tabulate_zeros (suc n) z f h = rw (suc-add n z) (cc (tabulate_zeros n z (λ t. f (suc t)) (λ t l. h (suc t) (omega arith))))
 
--- THE LESSER of two lengths
-pub lesser_within : (x y r : ℕ) → r ≡ cond (ltb x y) x y → (r ≤ x) × (r ≤ y)
-lesser_within x y r e =
-    by_lt x y
-    (λ h. let f = rw (lt-ltb x y h) at e in (omega arith, omega arith))
-    (λ h. let f = rw (le-ltb x y h) at e in (omega arith, omega arith))
-
 -- THE BYTES of card a's address
 pub row_byte_below : (ps : List ℕ) (a t : ℕ) → t < address_size (plan_columns ps) → row_byte ps a t ≡ get_or ps (address_start ps a + t) 0
 unfolding row_byte
@@ -68,14 +56,14 @@ pub row_byte_behind : (ps : List ℕ) (a t : ℕ) → address_size (plan_columns
 unfolding row_byte
 row_byte_behind ps a t h = rw (le-ltb t (address_size (plan_columns ps)) h) refl
 
-module _ (ps : List ℕ) (s : Sizes) (z : LaidOut ps s) (a : ℕ) (h : a < s.cards) where
+module _ (ps : List ℕ) {n m c : ℕ} (z : Sized ps n m c) (a : ℕ) (h : a < n) where
   abbrev size : ℕ
   size = address_size (plan_columns ps)
 
   inside : address_start ps a + size ≤ length ps
   inside =
-      let start = addresses_start s.links + a * address_size s.columns in
-      let e = address_counted ps s z a (address_size s.columns) start h refl refl in
+      let start = addresses_start m + a * address_size c in
+      let e = address_counted ps z a (address_size c) start h refl refl in
       rw (e.0, z.columns) at e.1
 
   part_row : (count : ℕ) → count ≤ size → part ps (address_start ps a) count ≡ tabulate count (row_byte ps a)
@@ -84,20 +72,20 @@ module _ (ps : List ℕ) (s : Sizes) (z : LaidOut ps s) (a : ℕ) (h : a < s.car
       ext_get_or 0 (part ps (address_start ps a) count) (tabulate count (row_byte ps a)) (l ∙ sym (length_tabulate count (row_byte ps a))) (λ t k.
       let i : t < count = omega (arith, l) in
       get_or-take count (drop (address_start ps a) ps) t 0 i ∙ get_or-drop (address_start ps a) ps t 0 ∙ sym (row_byte_below ps a t (omega arith))
-      ∙ sym (get_d_tabulate count (row_byte ps a) t 0 i))
+      ∙ sym (get_or_tabulate count (row_byte ps a) t 0 i))
 
   -- cut to `wide` bytes, or with zeros behind it
-  row_wide : (wide shared : ℕ) → shared ≡ cond (ltb size wide) size wide
+  row_wide : (wide shared : ℕ) → shared ≡ min size wide
       → tabulate wide (row_byte ps a) ≡ part ps (address_start ps a) shared ++ replicate (wide - shared) 0
   row_wide wide shared e =
       by_lt size wide
       (λ h.
-      let s : shared ≡ size = e ∙ rw (lt-ltb size wide h) refl in
+      let s : shared ≡ size = omega arith in
       let w : wide ≡ size + (wide - size) = omega arith in
       ap (λ (i : ℕ). tabulate i (row_byte ps a)) w ∙ tabulate_zeros size (wide - size) (row_byte ps a) (row_byte_behind ps a)
       ∙ sym (rw s (ap (λ (xs : List ℕ). xs ++ replicate (wide - size) 0) (part_row size (omega arith)))))
       (λ h.
-      let s : shared ≡ wide = e ∙ rw (le-ltb size wide h) refl in
+      let s : shared ≡ wide = omega arith in
       let z : wide - wide ≡ 0 = omega arith in
       sym (rw (s, z, append-nil (part ps (address_start ps a) wide)) (part_row wide h)))
 
@@ -109,32 +97,26 @@ module _ (ps : List ℕ) (s : Sizes) (z : LaidOut ps s) (a : ℕ) (h : a < s.car
       (λ e. rw e (omega arith))
       (λ n. ap (λ (x : ℕ). x % 2 ^ (plan_columns ps % 8)) (sym (row_byte_below ps a (plan_columns ps / 8) (omega arith))))
 
-  pub row_appended : (whole start wide shared at : ℕ) (old new : List ℕ) → whole ≡ address_size s.columns → start ≡ address_start ps a
-      → shared ≡ cond (ltb whole wide) whole wide → length new ≡ length old → at + wide ≤ length old → Appends at old new (part ps start shared)
-      → Appends at old new (tabulate wide (row_byte ps a))
-  row_appended whole start wide shared at old new d e f long room w =
-      let g : shared ≡ cond (ltb size wide) size wide = rw (d, z.columns) at f in
-      let l = lesser_within size wide shared g in
-      let k = length_part (address_start ps a) shared ps (omega (arith, l.0, inside)) in
+  pub row_appended : (start wide shared at : ℕ) (old new : List ℕ) → start ≡ addresses_start m + a * address_size c → shared ≡ min (address_size c) wide
+      → length new ≡ length old → at + wide ≤ length old → Appends at old new (part ps start shared) → Appends at old new (tabulate wide (row_byte ps a))
+  row_appended start wide shared at old new e f long room w =
+      let place = (address_counted ps z a (address_size c) start h refl e).0 in
+      let g : shared ≡ min size wide = rw z.columns at f in
+      let k = length_part (address_start ps a) shared ps (omega (arith, g, inside)) in
       rw (row_wide wide shared g)
-      (appends_zeros at (wide - shared) old new (part ps (address_start ps a) shared) (omega (arith, k, l.1)) (rw e at w))
+      (appends_zeros at (wide - shared) old new (part ps (address_start ps a) shared) (omega (arith, k, g)) (rw place at w))
 
   -- the whole bytes below column k, and the byte of column k with 1 there
-  pub row_one_appended : (k start b at : ℕ) (old mid : List ℕ) → k ≡ plan_columns ps → start ≡ address_start ps a → length mid ≡ length old
-      → at + k / 8 < length old
-      → b ≡ get_or ps (start + k / 8) 0 % 2 ^ (k % 8) + 2 ^ (k % 8) → Appends at old mid (part ps start (k / 8))
-      → Appends at old (set mid (at + k / 8) b) (row_with_one ps a)
+  pub row_one_appended : (start b at : ℕ) (old mid : List ℕ) → start ≡ addresses_start m + a * address_size c → length mid ≡ length old
+      → at + c / 8 < length old
+      → b ≡ get_or ps (start + c / 8) 0 % 2 ^ (c % 8) + 2 ^ (c % 8) → Appends at old mid (part ps start (c / 8))
+      → Appends at old (set mid (at + c / 8) b) (row_with_one ps a)
   unfolding row_with_one address_size
-  row_one_appended k start b at old mid e f l room g w =
-      let i = k / 8 in
-      let last : row_byte ps a (k / 8) % 2 ^ (k % 8) + 2 ^ (k % 8) ≡ b = sym (g ∙ rw (f, e) (ap (λ (x : ℕ). x + 2 ^ (plan_columns ps % 8)) row_byte_last)) in
-      rw (← e)
+  row_one_appended start b at old mid e l room g w =
+      let i = c / 8 in
+      let f = (address_counted ps z a (address_size c) start h refl e).0 in
+      let last : row_byte ps a (c / 8) % 2 ^ (c % 8) + 2 ^ (c % 8) ≡ b = sym (g ∙ rw (f, z.columns) (ap (λ (x : ℕ). x + 2 ^ (plan_columns ps % 8)) row_byte_last)) in
+      rw (← z.columns)
       (appended_byte at i old mid (tabulate i (row_byte ps a)) _ b (length_tabulate i (row_byte ps a)) room
       (ap (λ (x : ℕ). tabulate i (row_byte ps a) ++ (x ∷ [])) last)
-      (record { long = l; adds = rw (f, part_row i (omega (arith, e))) at w })).adds
-
--- THE BYTE of a new column: the bits below it, and its weight
-pub low_bits_fit : (x i : ℕ) → i < 8 → x % 2 ^ i + 2 ^ i < 256
-low_bits_fit x i h =
-    let l = mod-lt x (pow_pos i) in
-    by_eq i 7 (λ e. rw e (omega arith)) (λ n. omega (arith, l, pow-lt {i = i} {j = 7} (omega arith)))
+      (record { long = l; adds = rw (f, part_row i (omega (arith, z.columns))) at w })).adds

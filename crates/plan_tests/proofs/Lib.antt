@@ -1,6 +1,6 @@
 pub mod Places
-pub mod LowestPlaces
 pub mod OneColumn
 pub mod OrderedLinks
+pub mod Alls
 pub mod ZeroBytes
 pub mod Marks

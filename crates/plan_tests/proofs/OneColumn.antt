@@ -3,10 +3,11 @@ use mathlib.Core.Path.{◌≡◌, refl, sym, ap₂, ◌∙◌}
 use mathlib.Core.Bool.{Bool}
 use mathlib.Core.Logic.{◌≢◌}
 use mathlib.Core.List.{List}
-use Prim.Native.Nat.{ℕ, ◌*◌, ◌≤◌, ◌<◌}
+use Rattle.std.specs.Prelude.{Option, None, Some}
+use Prim.Native.Nat.{ℕ, ◌≤◌, ◌<◌}
 use native.Mathlib.Omega.{arith}
 use borrow.Author.Tests.{eq-eqb, ne_eqb}
-use Rattle.rack.specs.Lists.{differ}
+use Rattle.rack.specs.Lists.{differ, lowest, FoundBelow}
 use Rattle.rack.specs.Columns.{hamming}
 use Rattle.rack.specs.PlanFile.{bit_from, plan_bit, address_start}
 use Rattle.rack.proofs.Tables.{lowest_is, lowest_ext}
@@ -41,12 +42,15 @@ module _ (ps : List ℕ) (k p q a b : ℕ) (at_p : a ≡ address_start ps p) (at
   pub same_places : hamming k (bit_from ps a) (bit_from ps b) ≡ hamming k (plan_bit ps p) (plan_bit ps q)
   same_places = hamming_ext k _ _ _ _ (λ j h. address_bit ps p a j at_p) (λ j h. address_bit ps q b j at_q)
 
-  pub lowest_only : (size : ℕ) → k ≤ 8 * size → hamming k (bit_from ps a) (bit_from ps b) ≡ 1
-      → lowest_apart (8 * size) (bit_from ps a) (bit_from ps b) ≡ only_apart k (plan_bit ps p) (plan_bit ps q)
+  lowest_only : hamming k (bit_from ps a) (bit_from ps b) ≡ 1
+      → (lowest k (λ j. differ (bit_from ps a j) (bit_from ps b j)) ≡ only_apart k (plan_bit ps p) (plan_bit ps q)) × (only_apart k (plan_bit ps p) (plan_bit ps q) < k)
   unfolding lowest_apart
-  lowest_only size l h =
-      let one = sym same_places ∙ h in
-      let x = one_crossing k (plan_bit ps) p q one in
-      lowest_ext (8 * size) _ _ (λ j g. ap₂ differ (address_bit ps p a j at_p) (address_bit ps q b j at_q))
-      ∙ lowest_crossing k (plan_bit ps) p q (8 * size) l x ∙ sym (lowest_crossing k (plan_bit ps) p q k (omega arith) x)
-      ∙ sym (only_one k (plan_bit ps) p q one).0
+  lowest_only h =
+      let one = only_one k (plan_bit ps) p q (sym same_places ∙ h) in
+      let e = lowest_ext k _ _ (λ j g. ap₂ differ (address_bit ps p a j at_p) (address_bit ps q b j at_q)) ∙ sym one.0 in
+      (e, omega (arith, one.0, one.1))
+
+  pub found_only : hamming k (bit_from ps a) (bit_from ps b) ≡ 1 → (r : Option ℕ)
+      → FoundBelow k (lowest k (λ j. differ (bit_from ps a j) (bit_from ps b j))) r → FoundBelow k (only_apart k (plan_bit ps p) (plan_bit ps q)) r
+  found_only h None e = absurd (omega (arith, e, (lowest_only h).0, (lowest_only h).1))
+  found_only h (Some i) f = (f.0 ∙ (lowest_only h).0, f.1)

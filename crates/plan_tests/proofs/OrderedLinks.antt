@@ -15,12 +15,11 @@ use Rattle.rack.specs.Lists.{one}
 use Rattle.rack.specs.Wiring.{Wiring, link, link_count, link_at}
 use Rattle.rack.specs.Columns.{hamming}
 use Rattle.rack.specs.Refusals.{link_fault, links_refusal}
-use Rattle.rack.specs.PlanFile.{plan_wiring, plan_bit}
+use Rattle.rack.specs.PlanFile.{Sized, plan_wiring, plan_bit}
 use Rattle.rack.proofs.Logic.{by_eq}
 use Rattle.rack.proofs.Refusals.{lowest_fault_clear, link_fault_clear}
 use Rattle.rack.proofs.WiringFile.{wiring_at_cards, wiring_at_count}
 use Rattle.plan_tests.specs.Tests.{crossed, columns_in_order}
-use Rattle.plan_tests.specs.Sizes.{Sized}
 use Rattle.plan_tests.specs.Crossed.{CrossedColumns, only_apart}
 use Rattle.plan_tests.proofs.OneColumn.{only_one, only_none}
 
@@ -49,13 +48,11 @@ crossed_more k r w bytes i v l e known =
 abbrev pub in_order_from : (ps : List ℕ) (k i o : ℕ) → Bool
 in_order_from ps k i o = columns_in_order k (plan_bit ps) o (drop i (plan_wiring ps).links)
 
--- what a column j found at link i says, k for none
+-- what a column j found at link i says
 pub record ColumnFound (ps : List ℕ) (k i j : ℕ) : Type 0 where
-  pub none : (o : ℕ) → j ≡ k → in_order_from ps k i o ≡ false
-  pub late : (o : ℕ) → j ≢ k → o < j → in_order_from ps k i o ≡ false
-  pub more : (o : ℕ) → j ≢ k → j ≤ o → in_order_from ps k i o ≡ in_order_from ps k (i + 1) (o + one (eqb j o))
-  pub is : j ≢ k → j ≡ crossed k (plan_bit ps) (link_at (plan_wiring ps) i)
-  pub inside : j ≢ k → j < k
+  pub late : (o : ℕ) → o < j → in_order_from ps k i o ≡ false
+  pub more : (o : ℕ) → j ≤ o → in_order_from ps k i o ≡ in_order_from ps k (i + 1) (o + one (eqb j o))
+  pub is : j ≡ crossed k (plan_bit ps) (link_at (plan_wiring ps) i)
 
 module _ (ps : List ℕ) (n m k : ℕ) (z : Sized ps n m k) where
   abbrev w : Wiring
@@ -82,45 +79,45 @@ module _ (ps : List ℕ) (n m k : ℕ) (z : Sized ps n m k) where
     links_from : drop i w.links ≡ link_at w i ∷ drop (i + 1) w.links
     links_from = rw add-one (drop-cons w.links i (link 0 0) counted)
 
-    -- its ends p and q, and the only column j in which they differ
-    module _ (p q j : ℕ) (first : p ≡ (link_at w i).first) (second : q ≡ (link_at w i).second) (found : j ≡ only_apart k (r p) (r q)) where
+    -- its ends p and q, and the only column in which they differ
+    module _ (p q : ℕ) (first : p ≡ (link_at w i).first) (second : q ≡ (link_at w i).second) where
       abbrev places : ℕ
       places = hamming k (r (link_at w i).first) (r (link_at w i).second)
 
-      same_only : j ≡ only_apart k (r (link_at w i).first) (r (link_at w i).second)
-      same_only = found ∙ ap₂ (λ (a b : ℕ). only_apart k (r a) (r b)) first second
+      same_only : only_apart k (r p) (r q) ≡ only_apart k (r (link_at w i).first) (r (link_at w i).second)
+      same_only = ap₂ (λ (a b : ℕ). only_apart k (r a) (r b)) first second
 
-      found_crossed : j ≢ k → (places ≡ 1) × (j ≡ crossed k r (link_at w i)) × (j < k)
-      unfolding crossed
-      found_crossed inside =
-          by_eq places 1
-          (λ h. let x = only_one k r (link_at w i).first (link_at w i).second h in (h, same_only ∙ x.0, omega (arith, same_only, x)))
-          (λ h. absurd (inside (same_only ∙ only_none k r (link_at w i).first (link_at w i).second h)))
-
-      not_one : (o : ℕ) → j ≡ k → in_order_from ps k i o ≡ false
+      pub none_found : only_apart k (r p) (r q) ≡ k → (o : ℕ) → in_order_from ps k i o ≡ false
       unfolding columns_in_order
-      not_one o e = rw (links_from, ne_eqb places 1 more) refl
+      none_found e o = rw (links_from, ne_eqb places 1 more) refl
         where
           more : places ≢ 1
           more h =
               let x = only_one k r (link_at w i).first (link_at w i).second h in
               omega (arith, same_only, x)
 
-      too_late : (o : ℕ) → j ≢ k → o < j → in_order_from ps k i o ≡ false
-      unfolding columns_in_order
-      too_late o inside late =
-          let x = found_crossed inside in
-          rw (links_from, x.0, lt-leb (crossed k r (link_at w i)) o (omega (arith, x.1))) refl
+      module _ (j : ℕ) (found : (j ≡ only_apart k (r p) (r q)) × (j < k)) where
+        found_crossed : (places ≡ 1) × (j ≡ crossed k r (link_at w i))
+        unfolding crossed
+        found_crossed =
+            by_eq places 1
+            (λ h. (h, found.0 ∙ same_only ∙ (only_one k r (link_at w i).first (link_at w i).second h).0))
+            (λ h. absurd (omega (arith, found, same_only, only_none k r (link_at w i).first (link_at w i).second h)))
 
-      one_more : (o : ℕ) → j ≢ k → j ≤ o → in_order_from ps k i o ≡ in_order_from ps k (i + 1) (o + one (eqb j o))
-      unfolding columns_in_order
-      one_more o inside le =
-          let x = found_crossed inside in
-          rw (links_from, x.0, x.1, le-leb (crossed k r (link_at w i)) o (omega (arith, x.1))) refl
+        too_late : (o : ℕ) → o < j → in_order_from ps k i o ≡ false
+        unfolding columns_in_order
+        too_late o late =
+            let x = found_crossed in
+            rw (links_from, x.0, lt-leb (crossed k r (link_at w i)) o (omega (arith, x.1))) refl
 
-      pub column_found : ColumnFound ps k i j
-      column_found =
-          record { none = not_one; late = too_late; more = one_more; is = λ h. (found_crossed h).1; inside = λ h. (found_crossed h).2 }
+        one_more : (o : ℕ) → j ≤ o → in_order_from ps k i o ≡ in_order_from ps k (i + 1) (o + one (eqb j o))
+        unfolding columns_in_order
+        one_more o le =
+            let x = found_crossed in
+            rw (links_from, x.0, x.1, le-leb (crossed k r (link_at w i)) o (omega (arith, x.1))) refl
+
+        pub column_found : ColumnFound ps k i j
+        column_found = record { late = too_late; more = one_more; is = found_crossed.1 }
 
   pub all_seen : (o : ℕ) → in_order_from ps k m o ≡ eqb o k
   unfolding columns_in_order

@@ -7,9 +7,7 @@ use native.Mathlib.Omega.{arith}
 use lib.Dec.{eqb}
 use lib.ListN.{length, get_or}
 use Rattle.rack.specs.Bits.{number_bit}
-use Rattle.rack.specs.PlanFile.{bit_from, plan_bit, address_size, addresses_start, address_start}
-use Rattle.rack.proofs.PlanFile.{address_size_is, start_counted}
-use Rattle.plan_tests.specs.Sizes.{Sized}
+use Rattle.rack.specs.PlanFile.{Sized, bit_from, plan_bit, address_size, addresses_start, address_start}
 
 -- A BYTE'S BITS in a row of bytes, and in a card's address
 module _ (ps : List ℕ) where
@@ -33,15 +31,8 @@ module _ (ps : List ℕ) where
   card_bit c at j e = sym (address_bit c at j e)
 
 -- where the code counts that the address of card c begins, it does, and it ends inside the plan
-pub address_counted : (ps : List ℕ) (n m k : ℕ) → Sized ps n m k → (c size start : ℕ) → c < n → size ≡ address_size k → start ≡ addresses_start m + c * size
-    → (start ≡ address_start ps c) × (start + size ≤ length ps) × (size ≡ (k + 7) / 8)
-address_counted ps n m k z c size start h e f =
-    let g : (c + 1) * size ≤ n * size = mul-le-mul_right size (omega arith) in
-    let l : n * address_size k ≡ n * size = ap (λ (x : ℕ). n * x) (sym e) in (
-      start_counted m k c size start e f ∙ place,
-      omega (arith, z.long),
-      e ∙ address_size_is k,
-    )
-  where
-    place : addresses_start m + c * address_size k ≡ address_start ps c
-    place = rw (z.links, z.columns) refl
+pub address_counted : (ps : List ℕ) (n m k : ℕ) → Sized ps n m k → (c start : ℕ) → c < n → start ≡ addresses_start m + c * address_size k
+    → (start ≡ address_start ps c) × (start + address_size k ≤ length ps)
+address_counted ps n m k z c start h e =
+    let g : (c + 1) * address_size k ≤ n * address_size k = mul-le-mul_right (address_size k) (omega arith) in
+    (e ∙ rw (z.links, z.columns) refl, omega (arith, z.long))

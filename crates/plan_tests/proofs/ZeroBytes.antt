@@ -6,12 +6,16 @@ use mathlib.Core.List.{List}
 use Prim.Native.Nat.{ℕ, ◌+◌, ◌*◌, ◌-◌, ◌/◌, ◌%◌, ◌^◌, ◌≤◌, ◌<◌}
 use native.Mathlib.Nat.{zero-div, div-eq_of_lt}
 use native.Mathlib.Omega.{arith}
-use lib.ListN.{get_or}
-use borrow.Author.Tests.{not-true}
+use lib.ListN.{length, get_or, drop, length-drop}
+use Rattle.std.specs.Bool.{MatchBool}
+use Rattle.std.specs.List.{AllWithin, HoldsAt, slice_range}
+use Rattle.std.proofs.lemmas.List.{get_or-take, get_or-drop, length-take-le}
+use lib.Dec.{ltb}
+use borrow.Author.Tests.{not-true, lt-ltb, le-ltb}
 use Rattle.rack.specs.Lists.{all, range}
 use Rattle.rack.specs.Bits.{number_bit}
 use Rattle.rack.specs.PlanFile.{plan_bit, address_size, address_start}
-use Rattle.rack.proofs.Logic.{not_true_false, by_lt}
+use Rattle.rack.proofs.Logic.{true_not_false, not_true_false, by_bool, by_lt}
 use Rattle.rack.proofs.Tables.{all_below, below_all}
 use Rattle.rack.proofs.Bits.{number_bit_high, bits_value_few, number_value}
 use Rattle.plan_tests.specs.Tests.{first_zero, spare_card, spare_zero}
@@ -37,11 +41,7 @@ module _ (ps : List ℕ) (n k : ℕ) where
   abbrev r : (c j : ℕ) → Bool
   r = plan_bit ps
 
-  -- SPARE BITS
-  pub spare_whole : address_size k ≡ k / 8 → true ≡ spare_zero n k r
-  unfolding spare_zero address_size
-  spare_whole e = sym (below_all n (spare_card k r) (λ c h. below_all (8 * address_size k - k) (λ j. not (r c (k + j))) (λ j l. absurd (omega arith))))
-
+  -- SPARE BITS of a card
   module _ (c at : ℕ) (start : at ≡ address_start ps c) (part : address_size k ≢ k / 8) where
     pub low_spare : get_or ps (at + k / 8) 0 < 2 ^ (k % 8) → spare_card k r c ≡ true
     unfolding address_size
@@ -58,13 +58,10 @@ module _ (ps : List ℕ) (n k : ℕ) where
         sym (byte_bit ps c at (k / 8) j start b) ∙ ap (r c) e
         ∙ not-true (r c (k + (j - k % 8))) (all_below (8 * address_size k - k) (λ j. not (r c (k + j))) t (j - k % 8) (omega arith)))
 
-  pub all_spare : ((c : ℕ) → c < n → spare_card k r c ≡ true) → true ≡ spare_zero n k r
-  unfolding spare_zero
-  all_spare f = sym (below_all n (spare_card k r) f)
-
-  pub one_not_spare : (c : ℕ) → c < n → (spare_card k r c ≡ true → ⊥) → false ≡ spare_zero n k r
-  unfolding spare_zero
-  one_not_spare c l f = sym (not_true_false (all (spare_card k r) (range n)) (λ t. f (all_below n (spare_card k r) t c l)))
+    -- as one test of that byte
+    pub spare_byte : get_or ps (at + k / 8) 0 < 256 → ltb (get_or ps (at + k / 8) 0) (2 ^ (k % 8)) ≡ spare_card k r c
+    spare_byte h =
+        by_bool (spare_card k r c) (λ t. lt-ltb _ _ (spare_low h t) ∙ sym t) (λ f. le-ltb _ _ (by_lt _ _ (λ l. absurd (true_not_false _ (low_spare l) f)) (λ l. l)) ∙ sym f)
 
   -- CARD 0, whose address begins at a place
   module _ (at : ℕ) (start : at ≡ address_start ps 0) where
@@ -98,3 +95,21 @@ module _ (ps : List ℕ) (n k : ℕ) where
               λ i g b. sym (byte_bit ps 0 at t i start b) ∙ by_lt (8 * t + i) k
               (λ s. not-true (r 0 (8 * t + i)) (all_below k (λ j. not (r 0 j)) h (8 * t + i) s)) (λ s. spare_bit (8 * t + i) s (omega arith)) in
               n₀ (omega (arith, bits_small (get_or ps (at + t) 0) 0 small none))
+
+      -- what `all` answers of its bytes
+      module _ (size : ℕ) (counted : size ≡ address_size k) (inside : at + address_size k ≤ length ps) where
+        abbrev bytes : List ℕ
+        bytes = slice_range ps at (at + size)
+
+        long : length bytes ≡ size
+        long = length-take-le (at + size - at) (drop at ps) (omega (arith, inside, counted, length-drop at ps)) ∙ omega arith
+
+        byte_is : (t : ℕ) → t < size → get_or bytes t 0 ≡ get_or ps (at + t) 0
+        byte_is t l = get_or-take (at + size - at) (drop at ps) t 0 (omega arith) ∙ get_or-drop at ps t 0
+
+        pub first_settled : (b : Bool) → MatchBool b (AllWithin (λ x. x ≡ 0) bytes 0 (length bytes)) ((t : ℕ) × (t < length bytes) × HoldsAt (λ x. (x ≢ 0) × (x < 256)) bytes t)
+            → b ≡ first_zero k r
+        first_settled true h = bytes_first (λ t l. sym (byte_is t (omega (arith, counted))) ∙ h t 0 (omega arith) (omega (arith, long, counted)))
+        first_settled false h =
+            let l : h.0 < size = omega (arith, long, h.1) in
+            byte_not_first h.0 (omega (arith, counted)) (omega (arith, byte_is h.0 l, (h.2 0).1)) (λ e. (h.2 0).0 (byte_is h.0 l ∙ e))

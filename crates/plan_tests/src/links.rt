@@ -1,62 +1,50 @@
 // Refusals 6 to 8 of the links inside a plan. Two links may join the same two cards: the first sets the mark of its ends in the order in
 // which it names them, and where that one is set, the mark in the other order.
-ghost use Rattle.std.specs.Prelude.{◌≡◌, true, ◌+◌, ◌<◌, eqb, length, replicate};
+ghost use Rattle.std.specs.Prelude.{◌≡◌, true, ◌+◌, ◌<◌, eqb, replicate};
 ghost use Rattle.rack.specs.Limits.{lent_words, most_cards};
 ghost use Rattle.rack.specs.Refusals.{link_fault, links_refusal};
-ghost use Rattle.rack.specs.PlanFile.{plan_columns, plan_wiring};
-ghost use Rattle.plan_tests.specs.Sizes.{Sized};
+ghost use Rattle.rack.specs.PlanFile.{plan_wiring};
 ghost use Rattle.plan_tests.specs.Marks.{MarkSet, LinksMarked};
 
-use rack::bytes::{first_end, second_end};
+use rack::limits::LENT_WORDS;
+use rack::views::Plan;
 
 // Sets the mark of cards `a` and `b`, in this order; whether it was free.
-fn set_mark(marks: &mut [u64], a: usize, b: usize) -> bool
-    requires { (length marks.old ≡ lent_words) × (a < most_cards) × (b < most_cards) }
+fn set_mark(marks: &mut [u64; LENT_WORDS], a: usize, b: usize) -> bool
+    requires { (a < most_cards) × (b < most_cards) }
     ensures { MarkSet a b marks.old marks.new result }
 {
     let at = 4 * a + b / 64;
-    let word = marks[at];
-    if (word >> (b % 64)) % 2 == 1 {
+    if (marks[at] >> (b % 64)) % 2 == 1 {
         return false;
     }
-    marks[at] = word + (1u64 << (b % 64));
+    marks[at] += 1u64 << (b % 64);
     true
 }
 
 // Whether none of 6 to 8 applies to link `i`, which is marked then.
-fn link_holds(plan: &[u8], n: usize, m: usize, i: usize, marks: &mut [u64]) -> bool
-    requires { Sized plan.now n m (plan_columns plan.now) × (i < m) × LinksMarked (plan_wiring plan.now) i marks.old }
-    ensures is { result ≡ eqb (link_fault (plan_wiring plan.now) i) 0 }
-    ensures marks { result ≡ true → LinksMarked (plan_wiring plan.now) (i + 1) marks.new }
+fn link_holds(plan: Plan<'_>, i: usize, marks: &mut [u64; LENT_WORDS]) -> bool
+    requires { (i < plan.links) × LinksMarked (plan_wiring plan.bytes.now) i marks.old }
+    ensures is { result ≡ eqb (link_fault (plan_wiring plan.entry.bytes.now) i) 0 }
+    ensures marks { result ≡ true → LinksMarked (plan_wiring plan.entry.bytes.now) (i + 1) marks.new }
 {
-    let p = first_end(plan, 6, m, i);
-    let q = second_end(plan, 6, m, i);
-    if n <= p {
+    let p = plan.first_end(i);
+    let q = plan.second_end(i);
+    if plan.cards <= p || plan.cards <= q || p == q {
         return false;
     }
-    if n <= q {
-        return false;
-    }
-    if p == q {
-        return false;
-    }
-    if set_mark(marks, p, q) {
-        return true;
-    }
-    set_mark(marks, q, p)
+    set_mark(marks, p, q) || set_mark(marks, q, p)
 }
 
 // Whether none of 6 to 8 applies to the links. The marks are zero at entry.
-pub fn links_hold(plan: &[u8], n: usize, m: usize, marks: &mut [u64]) -> bool
-    requires { Sized plan.now n m (plan_columns plan.now) × (marks.old ≡ replicate lent_words 0) }
-    ensures { result ≡ eqb (links_refusal (plan_wiring plan.now)).number 0 }
+pub fn links_hold(plan: Plan<'_>, marks: &mut [u64; LENT_WORDS]) -> bool
+    requires { marks.old ≡ replicate lent_words 0 }
+    ensures { result ≡ eqb (links_refusal (plan_wiring plan.entry.bytes.now)).number 0 }
 {
-    let mut i: usize = 0;
-    while i < m {
-        if !link_holds(plan, n, m, i, marks) {
+    for i in 0..plan.links {
+        if !link_holds(plan, i, marks) {
             return false;
         }
-        i += 1;
     }
     true
 }

@@ -1,46 +1,34 @@
 // Zeros: the spare bits of all addresses, and the address of card 0.
-ghost use Rattle.std.specs.Prelude.{◌≡◌, true};
+ghost use Rattle.std.specs.Prelude.{◌≡◌, true, ◌<◌};
 ghost use Rattle.rack.specs.PlanFile.{plan_bit};
-ghost use Rattle.plan_tests.specs.Tests.{first_zero, spare_zero};
-ghost use Rattle.plan_tests.specs.Sizes.{Sized};
+ghost use Rattle.plan_tests.specs.Tests.{first_zero, spare_card, spare_zero};
 
-use rack::plan_file::{address_size, address_start};
+use rack::views::Plan;
 
-// Whether the bits behind the last column are zero in each card's last byte.
-pub fn spare_zero(plan: &[u8], n: usize, m: usize, k: usize) -> bool
-    requires { Sized plan.now n m k }
-    ensures { result ≡ spare_zero n k (plan_bit plan.now) }
+// Whether the bits behind the last column are zero in the last byte of card `c`.
+fn spare_card(plan: Plan<'_>, c: usize) -> bool
+    requires { c < plan.cards }
+    ensures { result ≡ spare_card plan.entry.columns (plan_bit plan.entry.bytes.now) c }
 {
-    let size = address_size(k);
-    let whole = k / 8;
-    if size == whole {
-        return true;
-    }
-    let weight = 1u8 << (k % 8);
-    let mut c: usize = 0;
-    while c < n {
-        let start = address_start(m, size, c);
-        if weight <= plan[start + whole] {
-            return false;
-        }
-        c += 1;
-    }
-    true
+    let whole = plan.columns / 8;
+    plan.address_size() == whole
+        || plan.bytes[plan.address_start(c) + whole] < 1u8 << (plan.columns % 8)
+}
+
+// The same of all cards.
+pub fn spare_zero(plan: Plan<'_>) -> bool
+    ensures { result ≡ spare_zero plan.entry.cards plan.entry.columns (plan_bit plan.entry.bytes.now) }
+{
+    (0..plan.cards).all(|c| spare_card(plan, c))
 }
 
 // Whether card 0 has zeros, where the spare bits are zero.
-pub fn first_zero(plan: &[u8], n: usize, m: usize, k: usize) -> bool
-    requires { Sized plan.now n m k × (spare_zero n k (plan_bit plan.now) ≡ true) }
-    ensures { result ≡ first_zero k (plan_bit plan.now) }
+pub fn first_zero(plan: Plan<'_>) -> bool
+    requires { spare_zero plan.cards plan.columns (plan_bit plan.bytes.now) ≡ true }
+    ensures { result ≡ first_zero plan.entry.columns (plan_bit plan.entry.bytes.now) }
 {
-    let size = address_size(k);
-    let start = address_start(m, size, 0);
-    let mut t: usize = 0;
-    while t < size {
-        if plan[start + t] != 0 {
-            return false;
-        }
-        t += 1;
-    }
-    true
+    let start = plan.address_start(0);
+    plan.bytes[start..start + plan.address_size()]
+        .iter()
+        .all(|byte| *byte == 0)
 }

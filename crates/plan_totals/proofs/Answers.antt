@@ -7,15 +7,10 @@ use native.Mathlib.Omega.{arith}
 use borrow.Author.Tests.{eq-eqb, ne_eqb}
 use Rattle.rack.specs.PlanFile.{plan_wiring}
 use Rattle.reader.specs.Plan.{plan_refusal}
-use Rattle.reader.specs.Promises.{Measured}
-use Rattle.reader.specs.Reading.{LaidOut, ReadSays, SizesSay, no_sizes}
-use Rattle.reader.specs.declared.layout.Sizes.{Sizes}
-use Rattle.reader.proofs.AddressPart.{read_laid_out}
-use Rattle.reader.proofs.Promises.{read_measured}
-use Rattle.reader.proofs.Reading.{no_sizes_say}
+use Rattle.reader.specs.Reading.{Sizes, LaidOut, ReadSays, SizesSay, no_sizes}
+use Rattle.reader.proofs.Reading.{no_sizes_say, read_laid_out}
 use Rattle.totals.specs.Totals.{total_hops}
 use Rattle.plan_totals.specs.Summed.{ReadWithTotalSays, SummedSays}
-use Rattle.plan_totals.specs.declared.Summed.{Summed}
 use Rattle.plan_totals.proofs.Refusals.{total_refused_before, other_total, clear_total, total_clear}
 
 module _ (ps : List ℕ) (r : Sizes) (s : ReadSays ps r) where
@@ -52,15 +47,8 @@ module _ (ps : List ℕ) (r : Sizes) (s : ReadSays ps r) where
       record { number = sym (was_read e); cards = s.cards; links = s.links; columns = s.columns } in
       record { sizes = sizes; total = rw f is }
 
--- WITHOUT A REFUSAL the plan is measured, and the sizes answered are its layout
-pub with_total_measured : (ps : List ℕ) (t : ℕ) (r : Sizes) → ReadWithTotalSays ps t r
-    → ReadWithTotalSays ps t r × (r.number ≡ 0 → Measured ps)
-with_total_measured ps t r s = (s, λ e. read_measured ps (total_clear ps t (sym s.number ∙ e)).0)
-
-pub summed_measured : (ps : List ℕ) (r : Summed) → SummedSays ps r → SummedSays ps r × (r.number ≡ 0 → Measured ps)
-summed_measured ps r s = (s, λ e. read_measured ps (sym s.sizes.number ∙ e))
-
+-- WITHOUT A REFUSAL the sizes answered are the plan's layout
 pub total_laid_out : (ps : List ℕ) (t : ℕ) (s : Sizes) → ReadWithTotalSays ps t s → s.number ≡ 0 → LaidOut ps s
 total_laid_out ps t s z e =
     let f = sym z.number ∙ e in
-    read_laid_out ps 0 s (rw (f, ← (total_clear ps t f).0) at z) e
+    read_laid_out ps s (rw (f, ← (total_clear ps t f).0) at z) e

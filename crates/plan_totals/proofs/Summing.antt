@@ -12,14 +12,12 @@ use Rattle.rack.specs.Lists.{one, count, range}
 use Rattle.rack.specs.Bits.{number_bit}
 use Rattle.rack.specs.Hops.{hops}
 use Rattle.rack.specs.Limits.{most_cards}
-use Rattle.rack.specs.PlanFile.{bit_from, plan_bit, plan_columns, plan_hamming, plan_wiring, address_size, addresses_start, address_start}
+use Rattle.rack.specs.PlanFile.{bit_from, plan_bit, plan_columns, plan_hamming, plan_wiring, address_size, addresses_start, address_start, Sized}
 use Rattle.rack.proofs.Lists.{count_le_length, count_snoc}
 use Rattle.rack.proofs.Tables.{length_tabulate, tabulate_snoc}
 use Rattle.rack.proofs.Sums.{sum_none, sum_last, sum_le}
 use Rattle.rack.proofs.WiringFile.{wiring_at_cards}
 use Rattle.reader.specs.Promises.{Measured}
-use Rattle.reader.specs.Reading.{LaidOut}
-use Rattle.reader.specs.declared.layout.Sizes.{Sizes}
 use Rattle.reader.proofs.Addresses.{address_counted}
 use Rattle.reader.proofs.Measured.{plan_embedding}
 use Rattle.totals.specs.Totals.{bit_products, hops_to, ones_of, total_hops}
@@ -49,13 +47,13 @@ module _ (bits : ℕ → ℕ → Bool) (j : ℕ) where
   ones_few n ones e = omega (arith, e, count_le_length (λ c. bits c j) (range n), length_tabulate n (λ c. c))
 
 -- one card more: the byte of column j in its address, which the code reads, is inside the plan, and its bit is added
-module _ (ps : List ℕ) (s : Sizes) (z : LaidOut ps s) (j size start : ℕ) (column : j < s.columns) (sized : size ≡ address_size s.columns)
-    (starts : start ≡ addresses_start s.links + 0 * size + j / 8) where
-  pub ones_more : (c ones : ℕ) → c < s.cards → ones ≡ ones_of (plan_bit ps) c j
+module _ (ps : List ℕ) {n m k : ℕ} (z : Sized ps n m k) (j size start : ℕ) (column : j < k) (sized : size ≡ address_size k)
+    (starts : start ≡ addresses_start m + 0 * address_size k + j / 8) where
+  pub ones_more : (c ones : ℕ) → c < n → ones ≡ ones_of (plan_bit ps) c j
       → (start + c * size < length ps) × (ones + get_or ps (start + c * size) 0 / 2 ^ (j % 8) % 2 ≡ ones_of (plan_bit ps) (c + 1) j)
   unfolding bit_from plan_bit
   ones_more c ones h e =
-      let k = address_counted ps s z c size (addresses_start s.links + c * size) h sized refl in
+      let e₀ = address_counted ps z c size (addresses_start m + c * size) h sized refl in
       let at : start + c * size ≡ address_start ps c + j / 8 = omega arith in
       (omega arith, rw at (omega (arith, e, ones_last (plan_bit ps) j c, one_number_bit (get_or ps (address_start ps c + j / 8) 0) (j % 8))))
 
@@ -76,9 +74,8 @@ module _ (bits : ℕ → ℕ → Bool) (n : ℕ) where
   unfolding bit_products
   products_few h k = sum_le k (most_cards * most_cards) (λ j. ones_of bits n j * (n - ones_of bits n j)) (λ j l. product_few h j)
 
-pub products_total : (ps : List ℕ) (s : Sizes) → LaidOut ps s → Measured ps
-    → bit_products (plan_bit ps) s.cards s.columns ≡ total_hops (plan_wiring ps)
-products_total ps s z m =
+pub products_total : (ps : List ℕ) {n m k : ℕ} → Sized ps n m k → Measured ps → bit_products (plan_bit ps) n k ≡ total_hops (plan_wiring ps)
+products_total ps z m =
     ap₂ (bit_products (plan_bit ps)) (z.cards ∙ sym (wiring_at_cards 6 ps)) z.columns
     ∙ sym (embedding_products (plan_wiring ps) (plan_columns ps) (plan_bit ps) (plan_embedding ps m))
 
@@ -87,15 +84,15 @@ pub hops_none : (ps : List ℕ) (a : ℕ) → hops_to (plan_wiring ps) 0 a ≡ 0
 unfolding hops_to
 hops_none ps a = sum_none (hops (plan_wiring ps) a)
 
-module _ (ps : List ℕ) (s : Sizes) (z : LaidOut ps s) (m : Measured ps) (a : ℕ) (inside : a < s.cards) where
-  pub hops_more : (c sum d : ℕ) → c < s.cards → sum ≡ hops_to (plan_wiring ps) c a → d ≡ plan_hamming ps a c
+module _ (ps : List ℕ) {n l k : ℕ} (z : Sized ps n l k) (m : Measured ps) (a : ℕ) (inside : a < n) where
+  pub hops_more : (c sum d : ℕ) → c < n → sum ≡ hops_to (plan_wiring ps) c a → d ≡ plan_hamming ps a c
       → sum + d ≡ hops_to (plan_wiring ps) (c + 1) a
   unfolding hops_to
   hops_more c sum d h e f =
       let g = m.measured a c (omega (arith, z.cards)) (omega (arith, z.cards)) in
       rw (e, f, g) (sym (sum_last c (hops (plan_wiring ps) a)))
 
-  pub hops_few : (c : ℕ) → c ≤ s.cards → hops_to (plan_wiring ps) c a ≤ c * most_cards
+  pub hops_few : (c : ℕ) → c ≤ n → hops_to (plan_wiring ps) c a ≤ c * most_cards
   unfolding hops_to
   hops_few c h =
       sum_le c most_cards (hops (plan_wiring ps) a)

@@ -1,11 +1,12 @@
 -- A plan read together with the sum of its hops. Assumes nothing: these are definitions.
-use Rattle.std.specs.Prelude.{◌≡◌, cond, List, ℕ, eqb}
+use Rattle.std.specs.Prelude.{◌≡◌, cond, List, ℕ, eqb, Result, Ok, Err}
 use Rattle.rack.specs.PlanFile.{plan_wiring}
 use Rattle.reader.specs.Plan.{plan_refusal}
-use Rattle.reader.specs.Reading.{SizesSay, ReadSays}
-use Rattle.reader.specs.declared.layout.Sizes.{Sizes}
+use Rattle.rack.specs.Refused.{refusal_of}
+use Rattle.rack.specs.declared.refused.Refused.{Refused}
+use Rattle.reader.specs.Reading.{Sizes, SizesSay, ReadSays}
 use Rattle.totals.specs.Totals.{total_hops}
-use Rattle.plan_totals.specs.declared.Summed.{Summed}
+use Rattle.plan_totals.specs.declared.Summed.{Summed as SummedView}
 
 -- the sum of the wiring inside a plan
 abbrev pub plan_total : List ℕ → ℕ
@@ -18,6 +19,19 @@ total_refusal ps t = cond (eqb (plan_refusal ps) 0) (cond (eqb t (plan_total ps)
 -- reading a plan that comes with a sum: a number, and with 0 the three sizes, else zeros
 abbrev pub ReadWithTotalSays : List ℕ → (total : ℕ) → Sizes → Type 0
 ReadWithTotalSays ps t r = SizesSay ps (total_refusal ps t) r
+
+-- a refusal's number, 0 for none, and with 0 a plan's three sizes and the sum of its hops
+pub record Summed : Type 0 where
+  pub number : ℕ
+  pub cards : ℕ
+  pub links : ℕ
+  pub columns : ℕ
+  pub total : ℕ
+
+-- what a call answers that gives a plan with its sizes and that sum
+abbrev pub summed_of : Result SummedView Refused → Summed
+summed_of (Ok s) = record { number = 0; cards = s.plan.cards; links = s.plan.links; columns = s.plan.columns; total = s.total }
+summed_of (Err e) = record { number = (refusal_of e).number; cards = 0; links = 0; columns = 0; total = 0 }
 
 -- a number and three sizes alone
 abbrev pub sizes_of : Summed → Sizes

@@ -29,6 +29,10 @@ address_inside c n size h hn hs = omega (arith, address_room c n size h, address
 pub zeros_long : {o : List ℕ} → o ≡ replicate lent_plan 0 → length o ≡ lent_plan
 zeros_long e = ap length e ∙ length-replicate {A = ℕ} lent_plan 0
 
+-- THE ENDS of m links
+pub length_ends : (bs : List ℕ) (m : ℕ) → length (blocks (2 * m) (end_pair bs)) ≡ 4 * m
+length_ends bs m = omega (arith, length_blocks (2 * m) 2 (end_pair bs) (λ i. length_two_bytes (number_at bs (4 + 2 * i))))
+
 -- THE THREE SIZES, and then the whole plan
 pub sizes_appended : (n m k : ℕ) (o₀ o₁ o₂ o₃ : List ℕ) → Appends 0 o₀ o₁ (two_bytes n) → Appends 2 o₁ o₂ (two_bytes m) → Appends 4 o₂ o₃ (two_bytes k)
     → Appends 0 o₀ o₃ (two_bytes n ++ two_bytes m ++ two_bytes k)
@@ -60,19 +64,16 @@ module _ (bs ws : List ℕ) (n m k : ℕ) (sizes : SizesAre bs n m) where
   length_addresses : length addresses ≡ n * address_size k
   length_addresses = length_blocks n (address_size k) (λ c. tabulate (address_size k) (word_byte ws c)) (λ c. length_tabulate (address_size k) (word_byte ws c))
 
-  length_ends : length (blocks (2 * m) (end_pair bs)) ≡ 4 * m
-  length_ends = omega (arith, length_blocks (2 * m) 2 (end_pair bs) (λ i. length_two_bytes (number_at bs (4 + 2 * i))))
-
   pub plan_written : (size at : ℕ) (o₀ o₁ o₂ o₃ : List ℕ) → size ≡ address_size k → at ≡ addresses_start m + 0 * size → o₀ ≡ replicate lent_plan 0
       → Appends 0 o₀ o₁ (head n m k) → Appends 6 o₁ o₂ (blocks (2 * m) (end_pair bs)) → Appends at o₂ o₃ (blocks n (λ c. tabulate size (word_byte ws c)))
       → Written o₃ (written_bytes bs ws k)
   unfolding written_bytes
   plan_written size at o₀ o₁ o₂ o₃ e e' z a b c =
       rw (← sizes.cards, ← sizes.links)
-      (parts_written n m k (blocks (2 * m) (end_pair bs)) addresses at o₀ o₁ o₂ o₃ (omega (arith, length_ends)) z a b (rw e at c))
+      (parts_written n m k (blocks (2 * m) (end_pair bs)) addresses at o₀ o₁ o₂ o₃ (omega (arith, length_ends bs m)) z a b (rw e at c))
 
   pub plan_length : (size r : ℕ) → size ≡ address_size k → r ≡ addresses_start m + n * size → r ≡ length (written_bytes bs ws k)
   unfolding written_bytes
   plan_length size r e e' =
       rw (← sizes.cards, ← sizes.links, e', e)
-      (sym (length_parts n m k (blocks (2 * m) (end_pair bs)) addresses ∙ omega (arith, length_ends, length_addresses)))
+      (sym (length_parts n m k (blocks (2 * m) (end_pair bs)) addresses ∙ omega (arith, length_ends bs m, length_addresses)))

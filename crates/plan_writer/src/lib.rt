@@ -2,14 +2,15 @@
 #![tactic(auto)]
 
 ghost use Rattle.std.specs.Prelude.{◌≡◌, ◌+◌, ◌*◌, ◌<◌, ◌≤◌, length, replicate, ◌++◌};
-ghost use Rattle.rack.specs.Limits.{lent_plan, lent_words, most_cards, most_columns};
+ghost use Rattle.rack.specs.Limits.{lent_plan, most_cards, most_columns};
 ghost use Rattle.rack.specs.Lists.{tabulate, blocks};
 ghost use Rattle.rack.specs.Buffers.{two_bytes, Appends, Written};
-ghost use Rattle.rack.specs.Formed.{SizesAre};
 ghost use Rattle.plan_writer.specs.Writing.{end_pair, word_byte, written_bytes};
 
 use rack::bytes::{number_at, put_number};
+use rack::limits::{LENT_PLAN, LENT_WORDS};
 use rack::plan_file::{address_size, address_start};
+use rack::views::SizedFile;
 
 // Writes the three sizes.
 pub fn put_sizes(output: &mut [u8], n: usize, m: usize, k: usize)
@@ -21,66 +22,75 @@ pub fn put_sizes(output: &mut [u8], n: usize, m: usize, k: usize)
     put_number(output, 4, k);
 }
 
-// Appends the first `count` numbers of a file from byte 4 on: the ends of its links.
-fn put_ends(file: &[u8], count: usize, output: &mut [u8])
-    requires { (4 + 2 * count ≤ length file.now) × (6 + 2 * count ≤ length output.old) }
-    ensures { Appends 6 output.old output.new (blocks count (end_pair file.now)) }
+// Appends the ends of the links, number by number: a copy of so many bytes at once would call memmove, which the C library may not.
+fn put_ends(file: SizedFile<'_>, output: &mut [u8; LENT_PLAN])
+    ensures { Appends 6 output.old output.new (blocks (2 * file.entry.links) (end_pair file.entry.bytes.now)) }
 {
-    let mut i: usize = 0;
-    while i < count {
-        put_number(output, 6 + 2 * i, number_at(file, 4 + 2 * i));
-        i += 1;
+    for i in 0..2 * file.links {
+        put_number(output, 6 + 2 * i, number_at(file.bytes, 4 + 2 * i));
     }
 }
 
 // Byte `t` of the words of card `c`.
-fn address_byte(words: &[u64], c: usize, t: usize) -> u8
-    requires { (length words.now ≡ lent_words) × (c < most_cards) × (t < 32) }
+fn address_byte(words: &[u64; LENT_WORDS], c: usize, t: usize) -> u8
+    requires { (c < most_cards) × (t < 32) }
     ensures { result ≡ word_byte words.now c t }
 {
     ((words[4 * c + t / 8] >> (8 * (t % 8))) % 256) as u8
 }
 
 // Appends the first `size` bytes of the words of card `c`.
-fn put_address(words: &[u64], c: usize, size: usize, output: &mut [u8], at: usize)
-    requires { (length words.now ≡ lent_words) × (c < most_cards) × (size ≤ 32) × (at + size ≤ length output.old) }
+fn put_address(
+    words: &[u64; LENT_WORDS],
+    c: usize,
+    size: usize,
+    output: &mut [u8; LENT_PLAN],
+    at: usize,
+)
+    requires { (c < most_cards) × (size ≤ 32) × (at + size ≤ lent_plan) }
     ensures { Appends at output.old output.new (tabulate size (word_byte words.now c)) }
 {
-    let mut t: usize = 0;
-    while t < size {
+    for t in 0..size {
         output[at + t] = address_byte(words, c, t);
-        t += 1;
     }
 }
 
 // Appends the addresses of `n` cards.
-fn put_addresses(words: &[u64], n: usize, size: usize, output: &mut [u8], at: usize)
-    requires { (length words.now ≡ lent_words) × (n ≤ most_cards) × (size ≤ 32) × (at + n * size ≤ length output.old) }
+fn put_addresses(
+    words: &[u64; LENT_WORDS],
+    n: usize,
+    size: usize,
+    output: &mut [u8; LENT_PLAN],
+    at: usize,
+)
+    requires { (n ≤ most_cards) × (size ≤ 32) × (at + n * size ≤ lent_plan) }
     ensures { Appends at output.old output.new (blocks n (λ c. tabulate size (word_byte words.now c))) }
 {
-    let mut c: usize = 0;
-    while c < n {
+    for c in 0..n {
         put_address(words, c, size, output, at + c * size);
-        c += 1;
     }
 }
 
-// Writes the plan of a file with `n` cards, `m` links and `k` columns, whose addresses are in the words; gives its length.
+// Writes the plan of a file whose addresses, of `k` columns, are in the words; gives its length.
 pub fn put_plan(
-    file: &[u8],
-    n: usize,
-    m: usize,
+    file: SizedFile<'_>,
     k: usize,
-    words: &[u64],
-    output: &mut [u8],
+    words: &[u64; LENT_WORDS],
+    output: &mut [u8; LENT_PLAN],
 ) -> usize
-    requires { SizesAre file.now n m × (k ≤ most_columns) × (length words.now ≡ lent_words) × (output.old ≡ replicate lent_plan 0) }
-    ensures bytes { Written output.new (written_bytes file.now words.now k) }
-    ensures long { result ≡ length (written_bytes file.now words.now k) }
+    requires { (k ≤ most_columns) × (output.old ≡ replicate lent_plan 0) }
+    ensures bytes { Written output.new (written_bytes file.entry.bytes.now words.now k) }
+    ensures long { result ≡ length (written_bytes file.entry.bytes.now words.now k) }
 {
     let size = address_size(k);
-    put_sizes(output, n, m, k);
-    put_ends(file, 2 * m, output);
-    put_addresses(words, n, size, output, address_start(m, size, 0));
-    address_start(m, size, n)
+    put_sizes(output, file.cards, file.links, k);
+    put_ends(file, output);
+    put_addresses(
+        words,
+        file.cards,
+        size,
+        output,
+        address_start(file.links, size, 0),
+    );
+    address_start(file.links, size, file.cards)
 }

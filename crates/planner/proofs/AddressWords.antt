@@ -92,8 +92,8 @@ words_used cs n ws used s few =
           (λ l. s.rest (4 * c + t) (omega arith));
     }
 
-pub opened_used : (w : Wiring) (n i : ℕ) (ws : List ℕ) (k used : ℕ) → ColumnsOpened w n i ws k → k < n → k ≤ 64 * used → WordsUsed ws used
-opened_used w n i ws k used o g few = words_used (columns_opened w i) n ws used (o.words g) (omega (arith, o.count g))
+pub opened_used : (w : Wiring) (n i : ℕ) (ws : List ℕ) (k used : ℕ) → ColumnsOpened w n i ws k → k ≤ 64 * used → WordsUsed ws used
+opened_used w n i ws k used o few = words_used (columns_opened w i) n ws used o.words (omega (arith, o.count))
 
 pub unused_part : (ws : List ℕ) (used : ℕ) → WordsUsed ws used → (a b t : ℕ) → used ≤ t → t < 4 → part_hamming ws a b t ≡ 0
 unused_part ws used u a b t h ht = rw (u.zero a t h ht, u.zero b t h ht) (hamming_same 64 (number_bit 0) (number_bit 0) (λ j l. refl))

@@ -1,24 +1,26 @@
 -- Refusals in the order of their places, and what planning says from what its stages hand on. Assumes nothing.
-use mathlib.Core.Path.{◌≡◌, refl, sym, ◌∙◌}
+use mathlib.Core.Path.{◌≡◌, refl, ◌∙◌}
 use mathlib.Core.Bool.{true, false}
 use mathlib.Core.Logic.{◌≢◌}
 use mathlib.Core.List.{List}
 use Prim.Native.Nat.{ℕ}
 use lib.ListN.{length}
+use Rattle.std.specs.Prelude.{Ok, Err}
+use Rattle.rack.specs.Refused.{refusal_of}
+use Rattle.rack.specs.declared.refused.Refused.{Refused}
 use Rattle.rack.specs.Wiring.{Wiring}
 use Rattle.rack.specs.Hops.{connected}
-use Rattle.rack.specs.Columns.{columns, column_count, address, Embedding, embeds}
+use Rattle.rack.specs.Columns.{column_count, address, Embedding, embeds}
 use Rattle.rack.specs.Refusals.{Refusal, refusal, or_else, links_refusal, reach_refusal, parity_refusal, embedding_refusal, rack_refusal}
 use Rattle.rack.specs.WiringFile.{file_wiring, sizes_fault, form_refusal, file_refusal}
 use Rattle.rack.proofs.Logic.{by_bool}
 use Rattle.rack.proofs.Refusals.{or_else_first, or_else_second, embeds_embedding, embedding_embeds}
 use Rattle.rack.proofs.Acceptance.{connected_refusal}
 use Rattle.survey.specs.Tables.{HopsIn}
-use Rattle.planner.specs.OpenColumns.{WordsOf}
-use Rattle.planner.specs.Stages.{PlannedAs}
+use Rattle.rack.proofs.RefusalNumbers.{refusal_numbered}
+use Rattle.planner.specs.Stages.{Addressed, PlannedAs}
 use Rattle.rack.specs.Limits.{lent_words, lent_hops}
-use Rattle.planner.specs.Planning.{Refuses}
-use Rattle.planner.specs.declared.Answer.{Answer}
+use Rattle.planner.specs.Answer.{answer_of}
 
 -- A FILE's refusal is its sizes', its links' or its rack's
 module _ (bs : List ℕ) where
@@ -61,33 +63,29 @@ module _ (w : Wiring) where
       ∙ rw (embedding_embeds w (column_count w) (address w) m) refl
 
 -- THE STAGES' answers
-pub planned_refused : (f : Refusal) (w : Wiring) (r : Answer) (ws h : List ℕ) (x i : ℕ) → f ≡ refusal x i → x ≢ 0 → Refuses x i r
-    → length ws ≡ lent_words → length h ≡ lent_hops → PlannedAs f w r ws h
-planned_refused f w r ws h x i e n a lw lh =
-    record {
-      number = rw e a.number;
-      at = rw e a.at;
-      value = λ z. absurd (some z);
-      no_value = λ z. a.value;
-      words = λ z. absurd (some z);
-      hops = λ z. absurd (some z);
-      long_words = lw;
-      long_hops = lh;
-    }
-  where
-    some : r.number ≢ 0
-    some z = n (sym a.number ∙ z)
+module _ (f : Refusal) (w : Wiring) (ws h : List ℕ) where
+  pub planned_refused : (e : Refused) → f ≡ refusal_of e → length ws ≡ lent_words → length h ≡ lent_hops → PlannedAs f w (answer_of (Err e)) ws h
+  planned_refused e is lw lh =
+      record {
+        number = rw is refl;
+        at = rw is refl;
+        value = λ z. absurd (refusal_numbered e z);
+        no_value = λ z. refl;
+        words = λ z. absurd (refusal_numbered e z);
+        hops = λ z. absurd (refusal_numbered e z);
+        long_words = lw;
+        long_hops = lh;
+      }
 
-pub planned_found : (f : Refusal) (w : Wiring) (r : Answer) (ws h : List ℕ) → f ≡ refusal 0 0 → r.number ≡ 0 → r.at ≡ 0 → r.value ≡ column_count w
-    → WordsOf (columns w) w.cards ws → HopsIn w h → PlannedAs f w r ws h
-planned_found f w r ws h e n a v words hops =
-    record {
-      number = rw e n;
-      at = rw e a;
-      value = λ z. v;
-      no_value = λ z. absurd (z n);
-      words = λ z. words;
-      hops = λ z. hops;
-      long_words = words.long;
-      long_hops = hops.long;
-    }
+  pub planned_found : (k : ℕ) → f ≡ refusal 0 0 → Addressed w ws k → HopsIn w h → PlannedAs f w (answer_of (Ok k)) ws h
+  planned_found k is a hops =
+      record {
+        number = rw is refl;
+        at = rw is refl;
+        value = λ z. a.count;
+        no_value = λ z. absurd (z refl);
+        words = λ z. a.words;
+        hops = λ z. hops;
+        long_words = a.words.long;
+        long_hops = hops.long;
+      }

@@ -11,7 +11,7 @@ use Rattle.rack.specs.Wiring.{Link, Wiring, link_count}
 use Rattle.rack.specs.Columns.{column, same_column, add_column, add_columns, columns, Embedding}
 use Rattle.rack.proofs.Logic.{true_not_false, not_true_false, by_bool, differ_cancel}
 use Rattle.rack.proofs.Lists.{In, any_ext, in_append}
-use Rattle.rack.proofs.Tables.{get_d_tabulate}
+use Rattle.rack.proofs.Tables.{get_or_tabulate}
 use Rattle.rack.proofs.Columns.{same_column_eq, same_column_self}
 use Rattle.rack.proofs.Crossing.{Rack, link_inside, crossing_only, link_crossing, column_crossing}
 use Rattle.rack.proofs.Uniqueness.{relative}
@@ -30,7 +30,7 @@ module _ (w : Wiring) (rack : Rack w) (k : ℕ) (r : ℕ → ℕ → Bool) (m : 
     where
       bit : (c : ℕ) → c < w.cards → get_or (column w y) c false ≡ differ (r c (crossed y j)) (r 0 (crossed y j))
       bit c h =
-          ap (λ (x : List Bool). get_or x c false) (column_crossing w k r m rack y j) ∙ get_d_tabulate w.cards
+          ap (λ (x : List Bool). get_or x c false) (column_crossing w k r m rack y j) ∙ get_or_tabulate w.cards
           (λ c. differ (r c (crossed y j)) (r 0 (crossed y j))) c false h
 
   -- THE COLUMN OF A LINK separates the ends of another exactly if both have the same column

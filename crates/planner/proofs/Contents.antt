@@ -16,7 +16,7 @@ use Rattle.rack.specs.Wiring.{Wiring}
 use Rattle.rack.specs.Hops.{hops}
 use Rattle.rack.specs.Columns.{columns, address}
 use Rattle.rack.proofs.Logic.{by_lt}
-use Rattle.rack.proofs.Tables.{length_tabulate, get_d_tabulate, length_blocks, getD_blocks}
+use Rattle.rack.proofs.Tables.{length_tabulate, get_or_tabulate, length_blocks, get_or_blocks}
 use Rattle.rack.proofs.Bits.{bits_value_number}
 use Rattle.survey.specs.Tables.{cell, HopsIn}
 use Rattle.planner.specs.Words.{word_bit}
@@ -47,7 +47,7 @@ pub table_at : (n b : ℕ) (f : ℕ → List ℕ) → ((i : ℕ) → length (f i
 table_at n b f long zs i j hi hj =
     let e : b * i + j ≡ i * b + j = omega arith in
     let l : i * b + j < length (blocks n f) = omega (arith, length_blocks n b f long, inside_rows n b i j hi hj) in
-    ap (λ (p : ℕ). get_or (blocks n f ++ zs) p 0) e ∙ get_or-append (blocks n f) zs 0 (i * b + j) l ∙ getD_blocks n b f long i j 0 hi hj
+    ap (λ (p : ℕ). get_or (blocks n f ++ zs) p 0) e ∙ get_or-append (blocks n f) zs 0 (i * b + j) l ∙ get_or_blocks n b f long i j 0 hi hj
 
 -- WORDS that hold the addresses
 length_card_words : (row : ℕ → Bool) → length (card_words row) ≡ 4
@@ -56,7 +56,7 @@ length_card_words row = refl
 
 card_word : (row : ℕ → Bool) (t : ℕ) → t < 4 → get_or (card_words row) t 0 ≡ bits_value 64 (λ i. row (64 * t + i))
 unfolding card_words
-card_word row t h = get_d_tabulate 4 (λ t. bits_value 64 (λ i. row (64 * t + i))) t 0 h
+card_word row t h = get_or_tabulate 4 (λ t. bits_value 64 (λ i. row (64 * t + i))) t 0 h
 
 length_all_words : (w : Wiring) → length (all_words w) ≡ w.cards * 4
 unfolding all_words
@@ -72,7 +72,7 @@ words_list w ws few h = zeros_behind (all_words w) ws (omega (arith, h.long, len
         let f : i ≡ i / 4 * 4 + i % 4 = omega arith in
         let c : i / 4 < w.cards = omega (arith, length_all_words w) in
         ap (λ (p : ℕ). get_or ws p 0) e ∙ h.is (i / 4) (i % 4) c (omega arith) ∙ sym (card_word (address w (i / 4)) (i % 4) (omega arith))
-        ∙ sym (ap (λ (p : ℕ). get_or (all_words w) p 0) f ∙ getD_blocks w.cards 4 (λ c. card_words (address w c))
+        ∙ sym (ap (λ (p : ℕ). get_or (all_words w) p 0) f ∙ get_or_blocks w.cards 4 (λ c. card_words (address w c))
         (λ c. length_card_words (address w c)) (i / 4) (i % 4) 0 c (omega arith))
 
 -- the address is read back from them
@@ -100,8 +100,8 @@ length_all_hops w = length_blocks w.cards 256 (hop_row w) (length_hop_row w)
 hop_place : (w : Wiring) (h : List ℕ) → HopsIn w h → (a b : ℕ) → a < w.cards → b < 256 → cell h a b ≡ get_or (hop_row w a) b 0
 hop_place w h m a b ha hb =
     by_lt b w.cards
-    (λ l. m.is a b ha l ∙ sym (get_d_tabulate 256 (λ b. cond (ltb b w.cards) (hops w a b) 0) b 0 hb ∙ rw (lt-ltb b w.cards l) refl))
-    (λ l. m.places a b hb l ∙ sym (get_d_tabulate 256 (λ b. cond (ltb b w.cards) (hops w a b) 0) b 0 hb ∙ rw (le-ltb b w.cards l) refl))
+    (λ l. m.is a b ha l ∙ sym (get_or_tabulate 256 (λ b. cond (ltb b w.cards) (hops w a b) 0) b 0 hb ∙ rw (lt-ltb b w.cards l) refl))
+    (λ l. m.places a b hb l ∙ sym (get_or_tabulate 256 (λ b. cond (ltb b w.cards) (hops w a b) 0) b 0 hb ∙ rw (le-ltb b w.cards l) refl))
 
 pub hops_list : (w : Wiring) (h : List ℕ) → w.cards ≤ most_cards → HopsIn w h → h ≡ all_hops w ++ replicate (length h - length (all_hops w)) 0
 unfolding all_hops
@@ -115,7 +115,7 @@ hops_list w h few m = zeros_behind (all_hops w) h (omega (arith, m.long, length_
         let f : i ≡ i / 256 * 256 + i % 256 = omega arith in
         let a : i / 256 < w.cards = omega (arith, length_all_hops w) in
         ap (λ (p : ℕ). get_or h p 0) (row_place i) ∙ hop_place w h m (i / 256) (i % 256) a (omega arith)
-        ∙ sym (ap (λ (p : ℕ). get_or (all_hops w) p 0) f ∙ getD_blocks w.cards 256 (hop_row w) (length_hop_row w) (i / 256) (i % 256) 0 a (omega arith))
+        ∙ sym (ap (λ (p : ℕ). get_or (all_hops w) p 0) f ∙ get_or_blocks w.cards 256 (hop_row w) (length_hop_row w) (i / 256) (i % 256) 0 a (omega arith))
 
     back : (i : ℕ) → length (all_hops w) ≤ i → i < length h → get_or h i 0 ≡ 0
     back i k l = ap (λ (p : ℕ). get_or h p 0) (row_place i) ∙ m.rows (i / 256) (i % 256) (omega arith) (omega (arith, length_all_hops w))
@@ -124,5 +124,5 @@ pub hops_at : (w : Wiring) (zs : List ℕ) (a b : ℕ) → w.cards ≤ most_card
 unfolding all_hops
 hops_at w zs a b few ha hb =
     table_at w.cards 256 (hop_row w) (length_hop_row w) zs a b ha (omega arith)
-    ∙ get_d_tabulate 256 (λ b. cond (ltb b w.cards) (hops w a b) 0) b 0 (omega arith)
+    ∙ get_or_tabulate 256 (λ b. cond (ltb b w.cards) (hops w a b) 0) b 0 (omega arith)
     ∙ rw (lt-ltb b w.cards hb) refl

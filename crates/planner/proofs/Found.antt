@@ -13,7 +13,7 @@ use Rattle.rack.specs.Embeddings.{column_of, times}
 use Rattle.rack.specs.Refusals.{Refusal, well_formed, rack_refusal}
 use Rattle.rack.specs.WiringFile.{file_wiring, form_refusal, file_refusal}
 use Rattle.rack.specs.Promises.{NoAddresses, AddressesEmbed, EmbeddingUnique, ColumnsOnce, FileAsWiring}
-use Rattle.rack.proofs.Tables.{tabulate_ext, tabulate_getD}
+use Rattle.rack.proofs.Tables.{tabulate_ext, tabulate_get_or}
 use Rattle.rack.proofs.Hamming.{hamming_ext}
 use Rattle.rack.proofs.Columns.{column_of_address}
 use Rattle.rack.proofs.Refusals.{well_formed_rack}
@@ -29,7 +29,7 @@ module _ (w : Wiring) where
   columns_of_bits rows bits =
       tabulate_ext (column_count w) (column_of w.cards rows) (λ j. get_or (columns w) j [])
       (λ j h. tabulate_ext w.cards (λ c. rows c j) (λ c. address w c j) (λ c l. bits c j l h) ∙ column_of_address w j h)
-      ∙ tabulate_getD (columns w) []
+      ∙ tabulate_get_or (columns w) []
 
 -- AN ANSWER to a well-formed, connected file, with the addresses as its bits
 module _ (bs : List ℕ) (form : (form_refusal bs).number ≡ 0) (whole : connected (file_wiring bs) ≡ true) (number k : ℕ) (rows : ℕ → ℕ → Bool)

@@ -42,7 +42,6 @@ pub record AtLink (bs h ws : List ℕ) (n m i k p q : ℕ) : Type 0 where
   pub formed : Formed bs n m
   pub inside : i < m
   pub hops : HopsIn (file_wiring bs) h
-  pub room : k < n
   pub before : ColumnsOpened (file_wiring bs) n i ws k
   pub first : p ≡ (link_at (file_wiring bs) i).first
   pub second : q ≡ (link_at (file_wiring bs) i).second
@@ -61,10 +60,10 @@ module _ {bs h ws : List ℕ} {n m i k p q : ℕ} (x : AtLink bs h ws n m i k p 
   counted = omega (arith, x.inside, x.formed.sizes.links, wiring_at_count 4 bs)
 
   count : k ≡ length (columns_opened w i)
-  count = x.before.count x.room
+  count = x.before.count
 
   few : length (columns_opened w i) < 256
-  few = omega (arith, count, x.room, x.formed.sizes.few)
+  few = omega (arith, count, x.before.room, x.formed.sizes.few)
 
   same_ends : SameWords ws p q → SameWords ws l.first l.second
   same_ends z = subst (λ (v : ℕ). SameWords ws l.first v) x.second (subst (λ (u : ℕ). SameWords ws u q) x.first z)
@@ -74,18 +73,18 @@ module _ {bs h ws : List ℕ} {n m i k p q : ℕ} (x : AtLink bs h ws n m i k p 
 
   ends_separated : (SameWords ws p q → ⊥) → separated l (columns_opened w i) ≡ true
   ends_separated z =
-      other_separated (columns_opened w i) n ws (x.before.words x.room) (omega (arith, few)) l (x.formed.first i x.inside) (x.formed.second i x.inside)
+      other_separated (columns_opened w i) n ws x.before.words (omega (arith, few)) l (x.formed.first i x.inside) (x.formed.second i x.inside)
       (λ e. z (ends_same e))
 
   ends_unseparated : SameWords ws p q → separated l (columns_opened w i) ≡ false
   ends_unseparated z =
-      same_unseparated (columns_opened w i) n ws (x.before.words x.room) (omega (arith, few)) l (x.formed.first i x.inside) (x.formed.second i x.inside)
+      same_unseparated (columns_opened w i) n ws x.before.words (omega (arith, few)) l (x.formed.first i x.inside) (x.formed.second i x.inside)
       (same_ends z)
 
   pub link_separated : (SameWords ws p q → ⊥) → ColumnsOpened w n (i + 1) ws k
   link_separated z =
       let e : columns_opened w (i + 1) ≡ columns_opened w i = columns_opened_next w i counted ∙ separated_same w l (columns_opened w i) (ends_separated z) in
-      record { most = x.before.most; count = λ g. rw e (x.before.count g); words = λ g. rw e (x.before.words g); full = λ g. rw e (x.before.full g) }
+      record { room = x.before.room; count = rw e x.before.count; words = rw e x.before.words }
 
   one_more : SameWords ws p q → columns_opened w (i + 1) ≡ columns_opened w i ++ (column w l ∷ [])
   one_more z = columns_opened_next w i counted ∙ unseparated_more w l (columns_opened w i) (ends_unseparated z)
@@ -93,19 +92,18 @@ module _ {bs h ws : List ℕ} {n m i k p q : ℕ} (x : AtLink bs h ws n m i k p 
   one_more_count : SameWords ws p q → k + 1 ≡ length (columns_opened w (i + 1))
   one_more_count z = rw (one_more z) (omega (arith, length-append (columns_opened w i) (column w l ∷ []), count))
 
-  pub link_full : SameWords ws p q → n ≤ k + 1 → ColumnsOpened w n (i + 1) ws n
-  link_full z g = record { most = omega arith; count = λ y. absurd (omega arith); words = λ y. absurd (omega arith); full = λ y. omega (arith, one_more_count z) }
+  pub link_full : SameWords ws p q → n ≤ k + 1 → n ≤ length (columns_opened w (i + 1))
+  link_full z g = omega (arith, one_more_count z)
 
   pub link_free : (c : ℕ) → c < n → get_or ws (4 * c + k / 64) 0 < 2 ^ (k % 64)
-  link_free = free_place (columns_opened w i) n ws k (x.before.words x.room) count (omega (arith, few, count))
+  link_free = free_place (columns_opened w i) n ws k x.before.words count (omega (arith, few, count))
 
   pub link_added : SameWords ws p q → k + 1 < n → (new : List ℕ) → ColumnAdded h ws new p q k n → ColumnsOpened w n (i + 1) new (k + 1)
   link_added z g new a =
       record {
-        most = omega arith;
-        count = λ y. one_more_count z;
-        words = λ y. rw (one_more z) (subst (λ (v : ℕ). WordsOf (columns_opened w i ++ (column w l ∷ [])) v new) (sym cards) longer);
-        full = λ y. absurd (omega arith);
+        room = g;
+        count = one_more_count z;
+        words = rw (one_more z) (subst (λ (v : ℕ). WordsOf (columns_opened w i ++ (column w l ∷ [])) v new) (sym cards) longer);
       }
     where
       longer : WordsOf (columns_opened w i ++ (column w l ∷ [])) w.cards new
@@ -114,14 +112,14 @@ module _ {bs h ws : List ℕ} {n m i k p q : ℕ} (x : AtLink bs h ws n m i k p 
           (omega (arith, cards, x.formed.first i x.inside))
           (omega (arith, cards, x.formed.second i x.inside))
           few
-          (subst (λ (v : ℕ). WordsOf (columns_opened w i) v ws) cards (x.before.words x.room))
+          (subst (λ (v : ℕ). WordsOf (columns_opened w i) v ws) cards x.before.words)
           (subst (λ (v : ℕ). ColumnAdded h ws new l.first l.second (length (columns_opened w i)) v) cards
           (rw count at (rw (x.first, x.second) at a)))
 
 -- NO LINK yet
 pub no_columns_opened : (w : Wiring) (n : ℕ) (ws : List ℕ) → 0 < n → ws ≡ replicate lent_words 0 → ColumnsOpened w n 0 ws 0
 unfolding columns_opened open_columns
-no_columns_opened w n ws h e = record { most = omega arith; count = λ g. refl; words = λ g. zero_words n ws e; full = λ g. absurd (omega arith) }
+no_columns_opened w n ws h e = record { room = h; count = refl; words = zero_words n ws e }
 
 -- WHERE THERE IS NO ROOM left, the later links only add columns
 open_longer : (w : Wiring) (l : Link) (cs : List (List Bool)) → length cs ≤ length (open_column w l cs)
@@ -139,11 +137,5 @@ columns_opened_longer : (w : Wiring) (i d : ℕ) → length (columns_opened w i)
 unfolding columns_opened
 columns_opened_longer w i d = rw (take-add, opens_append) (opens_longer w (take d (drop i w.links)) (open_columns w (take i w.links) []))
 
-pub full_columns_opened : (w : Wiring) (n i m k : ℕ) (ws : List ℕ) → i ≤ m → k ≡ n → ColumnsOpened w n i ws k → ColumnsOpened w n m ws n
-full_columns_opened w n i m k ws h e o =
-    record {
-      most = omega arith;
-      count = λ g. absurd (omega arith);
-      words = λ g. absurd (omega arith);
-      full = λ g. let d : i + (m - i) ≡ m = omega arith in rw (← d) (omega (arith, o.full e, columns_opened_longer w i (m - i)));
-    }
+pub full_columns_opened : (w : Wiring) (n i m : ℕ) → i ≤ m → n ≤ length (columns_opened w i) → n ≤ length (columns_opened w m)
+full_columns_opened w n i m h o = let d : i + (m - i) ≡ m = omega arith in rw (← d) (omega (arith, o, columns_opened_longer w i (m - i)))

@@ -8,6 +8,8 @@ use native.Mathlib.Omega.{arith}
 use lib.Dec.{eqb}
 use lib.ListN.{length, replicate}
 use borrow.Author.Tests.{eq-eqb, ne_eqb}
+use Rattle.std.specs.Prelude.{Err}
+use Rattle.rack.specs.declared.refused.Refused.TheVariants.{Lent}
 use Rattle.rack.specs.Wiring.{link_count}
 use Rattle.rack.specs.Columns.{column_count}
 use Rattle.rack.specs.WiringFile.{file_wiring, file_refusal}
@@ -17,8 +19,8 @@ use Rattle.rack.proofs.WiringFile.{wiring_at_cards, wiring_at_count}
 use Rattle.rack.proofs.Numbers.{file_numbers}
 use Rattle.planner.specs.Stages.{FilePlanned}
 use Rattle.rack.specs.Limits.{lent_words, lent_hops, most_cards, most_columns, most_links}
-use Rattle.planner.specs.Planning.{all_words, all_hops, left_in, AnswerIs, planning_refusal, PlanSays, Refuses}
-use Rattle.planner.specs.declared.Answer.{Answer}
+use Rattle.planner.specs.Planning.{all_words, all_hops, left_in, AnswerIs, planning_refusal, PlanSays}
+use Rattle.planner.specs.Answer.{Answer, answer_of}
 use Rattle.planner.proofs.Contents.{words_list, hops_list}
 
 -- NO FILE is refused with 1
@@ -54,14 +56,13 @@ pub accepted_links : (bs : List ℕ) → (file_refusal bs).number ≡ 0 → link
 accepted_links bs h = omega (arith, (file_clear bs h).0.links, wiring_at_count 4 bs)
 
 -- PLANNING in buffers of another length
-pub plan_says_one : (bs : List ℕ) (r : Answer) (ws h : List ℕ) → (eqb (length ws) lent_words && eqb (length h) lent_hops) ≡ false → Refuses 1 0 r
-    → PlanSays bs r ws ws h h
+pub plan_says_one : (bs ws h : List ℕ) → (eqb (length ws) lent_words && eqb (length h) lent_hops) ≡ false → PlanSays bs (answer_of (Err Lent)) ws ws h h
 unfolding planning_refusal
-plan_says_one bs r ws h t a =
+plan_says_one bs ws h t =
     record {
-      answer = record { number = rw t a.number; at = rw t a.at; value = rw t a.value };
-      words_left = rw a.number (sym (left_untouched _ ws));
-      hops_left = rw a.number (sym (left_untouched _ h));
+      answer = record { number = rw t refl; at = rw t refl; value = rw t refl };
+      words_left = sym (left_untouched _ ws);
+      hops_left = sym (left_untouched _ h);
     }
 
 -- PLANNING in buffers of their lengths

@@ -13,7 +13,7 @@ use Rattle.rack.specs.Wiring.{Wiring, link_count}
 use Rattle.rack.specs.Buffers.{number_at, two_bytes}
 use Rattle.rack.specs.WiringFile.{end_bytes, wiring_at}
 use Rattle.rack.specs.Columns.{column_count, address}
-use Rattle.rack.proofs.Tables.{length_tabulate, get_d_tabulate, length_blocks, getD_blocks}
+use Rattle.rack.proofs.Tables.{length_tabulate, get_or_tabulate, length_blocks, get_or_blocks}
 use Rattle.rack.proofs.WiringFile.{Fits, length_two_bytes, two_bytes_value, length_end_bytes, wiring_at_written, number_at_left}
 use Rattle.rack.specs.PlanFile.{address_size, plan_links, plan_columns, bit_from, plan_bit}
 use Rattle.planner.specs.PlanBytes.{address_bytes, plan_bytes}
@@ -30,7 +30,7 @@ length_address_bytes k row = length_tabulate (address_size k) _
 
 pub address_byte : (k : ℕ) (row : ℕ → Bool) (t : ℕ) → t < address_size k → get_or (address_bytes k row) t 0 ≡ bits_value 8 (λ i. row (8 * t + i))
 unfolding address_bytes
-address_byte k row t h = get_d_tabulate (address_size k) _ t 0 h
+address_byte k row t h = get_or_tabulate (address_size k) _ t 0 h
 
 -- THE PLAN of a wiring
 module _ (w : Wiring) where
@@ -74,7 +74,7 @@ module _ (w : Wiring) where
       simp length-append (omega (arith, length_two_bytes w.cards, length_two_bytes (link_count w), length_two_bytes (column_count w), length_end_bytes w)) in
       rw e
       (get_or-append-add (head ++ end_bytes w) addresses (c * address_size (column_count w) + t) 0
-      ∙ getD_blocks w.cards (address_size (column_count w)) _ (λ c. length_address_bytes (column_count w) (address w c)) c t 0 hc ht
+      ∙ get_or_blocks w.cards (address_size (column_count w)) _ (λ c. length_address_bytes (column_count w) (address w c)) c t 0 hc ht
       ∙ address_byte (column_count w) (address w c) t ht)
 
   module _ (links_fit : link_count w < 65536) (columns_fit : column_count w < 65536) where

@@ -13,7 +13,7 @@ use Rattle.survey.specs.Tables.{cell}
 use Rattle.planner.specs.Words.{word_bit}
 use Rattle.rack.specs.Limits.{lent_words, lent_hops}
 use Rattle.planner.specs.Planning.{all_words, all_hops, left_in, planning_refusal, PlanSays, Asked, AddressesFound}
-use Rattle.planner.specs.declared.Answer.{Answer}
+use Rattle.planner.specs.Answer.{Answer}
 use Rattle.planner.proofs.Contents.{word_bit_address, hops_at}
 use Rattle.planner.proofs.PlanAnswer.{accepted_few, accepted_columns}
 use Rattle.planner.proofs.Found.{found}

@@ -6,11 +6,16 @@ use Prim.Native.Nat.{ℕ, ◌+◌, ◌*◌, ◌-◌, ◌/◌, ◌%◌, ◌^◌, 
 use native.Mathlib.Omega.{arith}
 use lib.ListN.{length, replicate}
 use borrow.Author.Tests.{eq-eqb, ne_eqb}
+use Rattle.std.specs.Prelude.{Ok, Err}
+use Rattle.rack.specs.declared.refused.Refused.TheVariants.{Lent}
 use Rattle.rack.specs.Lists.{tabulate, blocks}
 use Rattle.rack.specs.Bits.{bits_value}
 use Rattle.rack.specs.Wiring.{Link, Wiring, link_at}
 use Rattle.rack.specs.Columns.{columns, column_count, address}
-use Rattle.rack.specs.Refusals.{Refusal, links_refusal, rack_refusal, wiring_refusal}
+use Rattle.rack.specs.Refused.{refusal_of}
+use Rattle.rack.specs.declared.refused.Refused.{Refused}
+use Rattle.rack.proofs.RefusalNumbers.{refusal_numbered}
+use Rattle.rack.specs.Refusals.{Refusal, refusal, links_refusal, rack_refusal, wiring_refusal}
 use Rattle.rack.specs.Buffers.{number_at, two_bytes, Written}
 use Rattle.rack.specs.WiringFile.{file_wiring, file_refusal, end_bytes}
 use Rattle.rack.proofs.Tables.{tabulate_ext, blocks_ext, blocks_add}
@@ -21,18 +26,17 @@ use Rattle.rack.proofs.Accepted.{wiring_accepted, file_clear}
 use Rattle.rack.proofs.WiringFile.{sized_clear, wiring_at_cards, wiring_at_count, wiring_at_link}
 use Rattle.rack.specs.PlanFile.{address_size}
 use Rattle.planner.specs.PlanBytes.{address_bytes, plan_bytes}
-use Rattle.rack.specs.Formed.{SizesAre}
 use Rattle.planner.specs.OpenColumns.{bit_in, WordsOf}
 use Rattle.planner.specs.Stages.{FilePlanned}
 use Rattle.rack.specs.Limits.{lent_plan, most_columns}
-use Rattle.planner.specs.Planning.{writing_refusal, Refuses, WriteSays}
+use Rattle.planner.specs.Planning.{writing_refusal, WriteSays}
 use Rattle.plan_writer.specs.Writing.{end_pair, word_byte, written_bytes}
-use Rattle.planner.specs.declared.Answer.{Answer}
+use Rattle.planner.specs.Answer.{answer_of}
 use Rattle.planner.proofs.Answers.{refusal_of_rack}
 use Rattle.planner.proofs.PlanAnswer.{file_not_one, left_untouched, left_filled, left_zero, accepted_columns}
 
 -- THE ENDS
-ends_written : (bs : List ℕ) → blocks (2 * number_at bs 2) (end_pair bs) ≡ end_bytes (file_wiring bs)
+pub ends_written : (bs : List ℕ) → blocks (2 * number_at bs 2) (end_pair bs) ≡ end_bytes (file_wiring bs)
 unfolding end_bytes
 ends_written bs =
     let m = number_at bs 2 in
@@ -76,7 +80,7 @@ plan_bytes_written bs ws k e few words =
     rw (e, ends_written bs, ← (wiring_at_cards 4 bs), ← (wiring_at_count 4 bs), addresses_written (file_wiring bs) ws words (omega arith)) refl
 
 -- an accepted file's refusal carries nothing
-at_zero : (bs : List ℕ) → (file_refusal bs).number ≡ 0 → (file_refusal bs).at ≡ 0
+pub at_zero : (bs : List ℕ) → (file_refusal bs).number ≡ 0 → (file_refusal bs).at ≡ 0
 unfolding wiring_refusal
 at_zero bs h =
     let c = file_clear bs h in
@@ -86,58 +90,48 @@ at_zero bs h =
     (column_count (file_wiring bs)) (address (file_wiring bs)) a.embedding)
 
 -- WRITING into a buffer of another length
-pub write_says_one : (bs : List ℕ) (r : Answer) (o : List ℕ) → length o ≢ lent_plan → Refuses 1 0 r → WriteSays bs r o o
+pub write_says_one : (bs o : List ℕ) → length o ≢ lent_plan → WriteSays bs (answer_of (Err Lent)) o o
 unfolding writing_refusal
-write_says_one bs r o t a =
+write_says_one bs o t =
     record {
-      answer = record { number = rw (ne_eqb (length o) lent_plan t) a.number; at = rw (ne_eqb (length o) lent_plan t) a.at; value = rw (ne_eqb (length o) lent_plan t) a.value };
-      output_left = rw a.number (sym (left_untouched (plan_bytes (file_wiring bs)) o));
+      answer = record { number = rw (ne_eqb (length o) lent_plan t) refl; at = rw (ne_eqb (length o) lent_plan t) refl; value = rw (ne_eqb (length o) lent_plan t) refl };
+      output_left = sym (left_untouched (plan_bytes (file_wiring bs)) o);
     }
 
--- WRITING into a buffer of its length, after planning
-module _ (bs : List ℕ) (r : Answer) (ws h o : List ℕ) (lo : length o ≡ lent_plan) (p : FilePlanned bs r ws h) where
-  pub write_says_refused : (out : List ℕ) → r.number ≢ 0 → out ≡ replicate (length o) 0 → WriteSays bs r o out
+-- WRITING into a buffer of its length: a refusal, or the plan
+pub write_says_refused : (bs o out : List ℕ) (e : Refused) → length o ≡ lent_plan → file_refusal bs ≡ refusal_of e → out ≡ replicate (length o) 0
+    → WriteSays bs (answer_of (Err e)) o out
+unfolding writing_refusal
+write_says_refused bs o out e lo is z =
+    let some = refusal_numbered e in
+    record {
+      answer = rw (eq-eqb (length o) lent_plan lo, is) (record { number = refl; at = refl; value = sym (rw (ne_eqb (refusal_of e).number 0 some) refl) });
+      output_left = z ∙ sym (left_zero (refusal_of e).number (plan_bytes (file_wiring bs)) o some (λ y. file_not_one bs (ap (λ (f : Refusal). f.number) is ∙ y)));
+    }
+
+-- what a refused planning says of the file
+pub planned_refusal : (bs ws h : List ℕ) (e : Refused) → FilePlanned bs (answer_of (Err e)) ws h → file_refusal bs ≡ refusal_of e
+planned_refusal bs ws h e p = sym (ap₂ refusal p.number p.at)
+
+module _ (bs ws h : List ℕ) (k : ℕ) (p : FilePlanned bs (answer_of (Ok k)) ws h) where
+  accepted : (file_refusal bs).number ≡ 0
+  accepted = sym p.number
+
+  pub columns_few : k ≤ most_columns
+  columns_few = omega (arith, p.value refl, accepted_columns bs accepted)
+
+  pub write_says_found : (o out : List ℕ) (v : ℕ) → length o ≡ lent_plan → length out ≡ length o → Written out (written_bytes bs ws k) → v ≡ length (written_bytes bs ws k)
+      → WriteSays bs (answer_of (Ok v)) o out
   unfolding writing_refusal
-  write_says_refused out n e =
-      let z : (file_refusal bs).number ≢ 0 = λ y. n (p.number ∙ y) in
+  write_says_found o out v lo l w e =
+      let same = plan_bytes_written bs ws k (p.value refl) columns_few (p.words refl) in
       record {
         answer = rw (eq-eqb (length o) lent_plan lo)
-            (record { number = p.number; at = p.at; value = p.no_value n ∙ sym (rw (ne_eqb (file_refusal bs).number 0 z) refl) });
-        output_left = e ∙ sym (left_zero r.number (plan_bytes (file_wiring bs)) o n (λ y. file_not_one bs (sym p.number ∙ y)));
+            (record {
+              number = sym accepted;
+              at = sym (at_zero bs accepted);
+              value = e ∙ ap length same ∙ sym
+                  (rw (eq-eqb (file_refusal bs).number 0 accepted) refl);
+            });
+        output_left = left_filled 0 (plan_bytes (file_wiring bs)) o out refl l (rw same at w.is);
       }
-
-  module _ (z : r.number ≡ 0) where
-    accepted : (file_refusal bs).number ≡ 0
-    accepted = sym p.number ∙ z
-
-    pub written_sizes : (n m : ℕ) → n ≡ number_at bs 0 → m ≡ number_at bs 2 → SizesAre bs n m
-    written_sizes n m en em =
-        let c = (file_clear bs accepted).0 in
-        record {
-          cards = en;
-          links = em;
-          some = omega (arith, c.some);
-          few = omega (arith, c.cards);
-          few_links = omega
-              (arith, c.links);
-          long = omega (arith, c.long);
-        }
-
-    pub columns_few : r.value ≤ most_columns
-    columns_few = omega (arith, p.value z, accepted_columns bs accepted)
-
-    pub write_says_found : (out : List ℕ) (v : ℕ) → length out ≡ length o → Written out (written_bytes bs ws r.value) → v ≡ length (written_bytes bs ws r.value)
-        → WriteSays bs (record { number = 0; at = 0; value = v }) o out
-    unfolding writing_refusal
-    write_says_found out v l w e =
-        let same = plan_bytes_written bs ws r.value (p.value z) columns_few (p.words z) in
-        record {
-          answer = rw (eq-eqb (length o) lent_plan lo)
-              (record {
-                number = sym accepted;
-                at = sym (at_zero bs accepted);
-                value = e ∙ ap length same ∙ sym
-                    (rw (eq-eqb (file_refusal bs).number 0 accepted) refl);
-              });
-          output_left = left_filled 0 (plan_bytes (file_wiring bs)) o out refl l (rw same at w.is);
-        }

@@ -12,7 +12,7 @@ use Rattle.planner.specs.PlanBytes.{plan_bytes}
 use Rattle.rack.specs.PlanFile.{plan_columns, plan_bit}
 use Rattle.rack.specs.Limits.{lent_plan}
 use Rattle.planner.specs.Planning.{left_in, writing_refusal, WriteSays, AskedToWrite, PlanFound}
-use Rattle.planner.specs.declared.Answer.{Answer}
+use Rattle.planner.specs.Answer.{Answer}
 use Rattle.planner.proofs.PlanBytes.{columns_in_front, bit_in_front}
 use Rattle.planner.proofs.PlanAnswer.{accepted_columns, accepted_links}
 use Rattle.planner.proofs.Found.{found}

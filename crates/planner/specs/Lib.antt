@@ -1,5 +1,6 @@
 pub mod PlanBytes
 pub mod Words
+pub mod Answer
 pub mod OpenColumns
 pub mod Stages
 pub mod Planning

@@ -33,12 +33,11 @@ pub record WordsOf (cs : List (List Bool)) (n : ℕ) (ws : List ℕ) : Type 0 wh
   pub is : (c t : ℕ) → c < n → t < 4 → get_or ws (4 * c + t) 0 ≡ bits_value 64 (λ i. bit_in cs c (64 * t + i))
   pub rest : (j : ℕ) → 4 * n ≤ j → get_or ws j 0 ≡ 0
 
--- `k` columns are in the words, those of the first i links; k is n where they would be n or more
+-- `k` columns, those of the first i links, are fewer than n and are in the words
 pub record ColumnsOpened (w : Wiring) (n i : ℕ) (ws : List ℕ) (k : ℕ) : Type 0 where
-  pub most : k ≤ n
-  pub count : k < n → k ≡ length (columns_opened w i)
-  pub words : k < n → WordsOf (columns_opened w i) n ws
-  pub full : k ≡ n → n ≤ length (columns_opened w i)
+  pub room : k < n
+  pub count : k ≡ length (columns_opened w i)
+  pub words : WordsOf (columns_opened w i) n ws
 
 -- the side of card c at a link p-q, from a table of hops: 1 in the set without card 0
 unfoldable pub side_in : List ℕ → (p q c : ℕ) → Bool

@@ -13,7 +13,7 @@ use Rattle.planner.specs.PlanBytes.{plan_bytes}
 use Rattle.rack.specs.PlanFile.{plan_columns, plan_bit}
 use Rattle.survey.specs.Tables.{cell}
 use Rattle.planner.specs.Words.{word_bit}
-use Rattle.planner.specs.declared.Answer.{Answer}
+use Rattle.planner.specs.Answer.{Answer}
 
 -- four words a card; column j is bit j mod 64 of word j / 64
 unfoldable pub card_words : (row : ℕ → Bool) → List ℕ
@@ -35,12 +35,6 @@ pub record AnswerIs (f : Refusal) (v : ℕ) (r : Answer) : Type 0 where
   pub number : r.number ≡ f.number
   pub at : r.at ≡ f.at
   pub value : r.value ≡ cond (eqb f.number 0) v 0
-
--- a refusal's number, the link or card that it carries, and no value
-pub record Refuses (x i : ℕ) (r : Answer) : Type 0 where
-  pub number : r.number ≡ x
-  pub at : r.at ≡ i
-  pub value : r.value ≡ 0
 
 -- 1, then 2 to 11
 unfoldable pub planning_refusal : List ℕ → (words hop_bytes : ℕ) → Refusal

@@ -5,7 +5,7 @@ use Rattle.rack.specs.Hops.{connected}
 use Rattle.rack.specs.WiringFile.{file_wiring, form_refusal}
 use Rattle.rack.specs.Limits.{lent_words, lent_hops, lent_plan}
 use Rattle.planner.specs.Planning.{PlanSays, WriteSays, AddressesFound, PlanFound}
-use Rattle.planner.specs.declared.Answer.{Answer}
+use Rattle.planner.specs.Answer.{Answer}
 
 -- demand 3 of planning, "for every well-formed, connected wiring": `Asked` has no condition besides these
 unfoldable pub PlanningFinds : Type 0

@@ -1,5 +1,5 @@
 -- What the planner's stages hand on. Assumes nothing: these are definitions.
-use Rattle.std.specs.Prelude.{◌≡◌, List, ℕ, ◌≤◌, ◌<◌, length}
+use Rattle.std.specs.Prelude.{◌≡◌, List, ℕ, length}
 use Rattle.rack.specs.Limits.{lent_hops, lent_words}
 use Rattle.rack.specs.Wiring.{Wiring}
 use Rattle.rack.specs.Columns.{columns, column_count, address, Embedding}
@@ -7,15 +7,13 @@ use Rattle.rack.specs.Refusals.{Refusal, rack_refusal}
 use Rattle.rack.specs.WiringFile.{file_wiring, file_refusal}
 use Rattle.survey.specs.Tables.{HopsIn}
 use Rattle.planner.specs.OpenColumns.{WordsOf}
-use Rattle.planner.specs.declared.Answer.{Answer}
+use Rattle.planner.specs.Answer.{Answer}
 
--- below n: the addresses of all cards are in the words; n: there are none
-pub record Addressed (w : Wiring) (n : ℕ) (ws : List ℕ) (k : ℕ) : Type 0 where
-  pub most : k ≤ n
-  pub embedding : k < n → Embedding w (column_count w) (address w)
-  pub count : k < n → k ≡ column_count w
-  pub words : k < n → WordsOf (columns w) n ws
-  pub none : k ≡ n → Embedding w (column_count w) (address w) → ⊥
+-- the addresses of all cards, of k columns, are in the words
+pub record Addressed (w : Wiring) (ws : List ℕ) (k : ℕ) : Type 0 where
+  pub embedding : Embedding w (column_count w) (address w)
+  pub count : k ≡ column_count w
+  pub words : WordsOf (columns w) w.cards ws
 
 -- the answer is a refusal, or the plan is in the buffers
 pub record PlannedAs (f : Refusal) (w : Wiring) (r : Answer) (ws h : List ℕ) : Type 0 where

@@ -1,100 +1,89 @@
 // Columns and the words of the addresses: a link opens a column where its ends have the same address so far.
-ghost use Rattle.std.specs.Prelude.{◌≡◌, true, false, ℕ, ◌+◌, ◌*◌, ◌/◌, ◌%◌, ◌^◌, ◌<◌, ◌≤◌, length, get_or, replicate};
-ghost use Rattle.rack.specs.Limits.{lent_hops, lent_words, most_cards, most_columns};
-ghost use Rattle.rack.specs.Lists.{one};
+ghost use Rattle.std.specs.Prelude.{◌≡◌, true, false, ℕ, ◌+◌, ◌*◌, ◌/◌, ◌%◌, ◌^◌, ◌<◌, ◌≤◌, MatchOption, get_or, length, replicate};
+ghost use Rattle.rack.specs.Limits.{lent_words, most_cards, most_columns};
 ghost use Rattle.rack.specs.WiringFile.{file_wiring};
-ghost use Rattle.rack.specs.Formed.{Formed};
 ghost use Rattle.survey.specs.Tables.{HopsIn};
-ghost use Rattle.planner.specs.OpenColumns.{ColumnAdded, ColumnsOpened, SameWords, side_in};
+ghost use Rattle.planner.specs.OpenColumns.{ColumnAdded, ColumnsOpened, SameWords, columns_opened, side_in};
 
-use rack::bytes::{first_end, second_end};
-use rack::limits::MOST_CARDS;
+use rack::limits::{LENT_HOPS, LENT_WORDS, MOST_CARDS};
+use rack::views::FormedFile;
 
 // Whether the words of two cards differ. Nothing is counted: one place is enough.
-fn words_differ(words: &[u64], a: usize, b: usize) -> bool
-    requires { (length words.now ≡ lent_words) × (a < most_cards) × (b < most_cards) }
+fn words_differ(words: &[u64; LENT_WORDS], a: usize, b: usize) -> bool
+    requires { (a < most_cards) × (b < most_cards) }
     ensures differ { result ≡ true → SameWords words.now a b → ⊥ }
     ensures same { result ≡ false → SameWords words.now a b }
 {
-    let mut t: usize = 0;
-    while t < 4 {
+    for t in 0..4 {
         if words[4 * a + t] != words[4 * b + t] {
             return true;
         }
-        t += 1;
     }
     false
 }
 
-// `weight` where card `c` is in the set without card 0 at a link from `p` to `q`, else 0.
-fn side_weight(hops: &[u8], p: usize, q: usize, c: usize, weight: u64) -> u64
-    requires { (length hops.now ≡ lent_hops) × (p < most_cards) × (q < most_cards) × (c < most_cards) }
-    ensures { result ≡ one (side_in hops.now p q c) * weight }
+// Whether card `c` is in the set without card 0 at a link from `p` to `q`.
+fn side(hops: &[u8; LENT_HOPS], p: usize, q: usize, c: usize) -> bool
+    requires { (p < most_cards) × (q < most_cards) × (c < most_cards) }
+    ensures { result ≡ side_in hops.now p q c }
 {
-    if hops[MOST_CARDS * c + p] < hops[MOST_CARDS * c + q] {
-        if hops[p] < hops[q] {
-            return 0;
-        }
-        return weight;
-    }
-    if hops[p] < hops[q] {
-        return weight;
-    }
-    0
+    (hops[MOST_CARDS * c + p] < hops[MOST_CARDS * c + q]) != (hops[p] < hops[q])
 }
 
 // Adds column `k`, that of a link from `p` to `q`, to the words of the `n` cards.
-fn add_column(hops: &[u8], n: usize, p: usize, q: usize, k: usize, words: &mut [u64])
-    requires { (length hops.now ≡ lent_hops) × (length words.old ≡ lent_words) × (n ≤ most_cards) × (p < most_cards) × (q < most_cards) × (k ≤ most_columns) × ((c : ℕ) → c < n → get_or words.old (4 * c + k / 64) 0 < 2 ^ (k % 64)) }
+fn add_column(
+    hops: &[u8; LENT_HOPS],
+    n: usize,
+    p: usize,
+    q: usize,
+    k: usize,
+    words: &mut [u64; LENT_WORDS],
+)
+    requires { (n ≤ most_cards) × (p < most_cards) × (q < most_cards) × (k ≤ most_columns) × ((c : ℕ) → c < n → get_or words.old (4 * c + k / 64) 0 < 2 ^ (k % 64)) }
     ensures { ColumnAdded hops.now words.old words.new p q k n }
 {
     let word = k / 64;
-    let weight = 1u64 << (k % 64);
-    let mut c: usize = 0;
-    while c < n {
-        words[4 * c + word] = words[4 * c + word] + side_weight(hops, p, q, c, weight);
-        c += 1;
+    for c in 0..n {
+        words[4 * c + word] += u64::from(side(hops, p, q, c)) << (k % 64);
     }
 }
 
-// Opens a column for link `i` where the addresses of its ends are equal so far; gives the number of columns, or `n` where there is no room for one more.
+// Opens a column for link `i` where the addresses of its ends are equal so far; gives the number of columns, or none where there is no room
+// for one more.
 fn open_link(
-    file: &[u8],
-    n: usize,
-    m: usize,
+    file: FormedFile<'_>,
     i: usize,
-    hops: &[u8],
+    hops: &[u8; LENT_HOPS],
     k: usize,
-    words: &mut [u64],
-) -> usize
-    requires { Formed file.now n m × (i < m) × HopsIn (file_wiring file.now) hops.now × (k < n) × ColumnsOpened (file_wiring file.now) n i words.old k }
-    ensures { ColumnsOpened (file_wiring file.now) n (i + 1) words.new result }
+    words: &mut [u64; LENT_WORDS],
+) -> Option<usize>
+    requires { (i < file.links) × HopsIn (file_wiring file.bytes.now) hops.now × ColumnsOpened (file_wiring file.bytes.now) file.cards i words.old k }
+    ensures { MatchOption result (file.entry.cards ≤ length (columns_opened (file_wiring file.entry.bytes.now) (i + 1))) (ColumnsOpened (file_wiring file.entry.bytes.now) file.entry.cards (i + 1) words.new) }
 {
-    let p = first_end(file, 4, m, i);
-    let q = second_end(file, 4, m, i);
+    let p = file.first_end(i);
+    let q = file.second_end(i);
     if words_differ(words, p, q) {
-        return k;
+        return Some(k);
     }
-    if n <= k + 1 {
-        return n;
+    if file.cards <= k + 1 {
+        return None;
     }
-    add_column(hops, n, p, q, k, words);
-    k + 1
+    add_column(hops, file.cards, p, q, k, words);
+    Some(k + 1)
 }
 
 // Opens the columns of all links, in words that are zero at entry.
-pub fn open_columns(file: &[u8], n: usize, m: usize, hops: &[u8], words: &mut [u64]) -> usize
-    requires { Formed file.now n m × HopsIn (file_wiring file.now) hops.now × (words.old ≡ replicate lent_words 0) }
-    ensures { ColumnsOpened (file_wiring file.now) n m words.new result }
+pub fn open_columns(
+    file: FormedFile<'_>,
+    hops: &[u8; LENT_HOPS],
+    words: &mut [u64; LENT_WORDS],
+) -> Option<usize>
+    requires { HopsIn (file_wiring file.bytes.now) hops.now × (words.old ≡ replicate lent_words 0) }
+    ensures { MatchOption result (file.entry.cards ≤ length (columns_opened (file_wiring file.entry.bytes.now) file.entry.links)) (ColumnsOpened (file_wiring file.entry.bytes.now) file.entry.cards file.entry.links words.new) }
 {
-    let mut k: usize = 0;
-    let mut i: usize = 0;
-    while i < m {
-        k = open_link(file, n, m, i, hops, k, words);
-        if k == n {
-            return n;
-        }
-        i += 1;
+    let mut k = 0;
+    for i in 0..file.links {
+        k = open_link(file, i, hops, k, words)?;
     }
-    k
+    Some(k)
 }

@@ -12,161 +12,139 @@
 // The tests of 2 to 10 and the hops are those of the crate survey.
 #![tactic(auto)]
 
-ghost use Rattle.std.specs.Prelude.{◌≡◌, true, length, replicate};
+ghost use Rattle.std.specs.Prelude.{◌≡◌, true, MatchOption, replicate};
 ghost use Rattle.rack.specs.Limits.{lent_hops, lent_words};
+ghost use Rattle.rack.specs.Columns.{Embedding, address, column_count};
 ghost use Rattle.rack.specs.Hops.{connected};
 ghost use Rattle.rack.specs.WiringFile.{file_wiring};
-ghost use Rattle.rack.specs.Formed.{Formed};
 ghost use Rattle.survey.specs.Tables.{HopsIn};
+ghost use Rattle.planner.specs.Answer.{answer_of};
 ghost use Rattle.planner.specs.Stages.{Addressed, FilePlanned, RackPlanned};
-ghost use Rattle.planner.specs.Planning.{AddressesFound, Asked, AskedToWrite, PlanFound, PlanSays, Refuses, WriteSays};
+ghost use Rattle.planner.specs.Planning.{AddressesFound, Asked, AskedToWrite, PlanFound, PlanSays, WriteSays};
 
 use columns::open_columns;
 use counting::ones::ones_table;
 use link_order::put_link_order;
 use pairs::{pairs_measure, words_used};
 use plan_writer::put_plan;
-use rack::bytes::number_at;
-use rack::fill::{clear_bytes, clear_words};
 use rack::limits::{LENT_HOPS, LENT_PLAN, LENT_WORDS, MOST_LINKS};
+use rack::refused::Refused;
+use rack::views::{FormedFile, SizedFile};
 use survey::hops::{all_hops, parity_refusal};
-use survey::links::{links_refusal, sizes_fault};
+use survey::links::{formed_file, sized_file};
 use survey::reach::reach_refusal;
 
 pub mod columns;
 pub mod pairs;
 
-// A refusal's number, 0 for none, the link or card that it carries, and with 0 a value.
-#[derive(Clone, Copy)]
-pub struct Answer {
-    pub number: u32,
-    pub at: u32,
-    pub value: u32,
-}
-
-// A refusal, with the link or card that it carries.
-pub fn refused(number: u32, at: u32) -> Answer
-    ensures { Refuses number at result }
+// Addresses in words that are zero at entry, and the number of columns; none where the rack has no addresses.
+fn address_cards(
+    file: FormedFile<'_>,
+    hops: &[u8; LENT_HOPS],
+    words: &mut [u64; LENT_WORDS],
+) -> Option<usize>
+    requires { (connected (file_wiring file.bytes.now) ≡ true) × HopsIn (file_wiring file.bytes.now) hops.now × (words.old ≡ replicate lent_words 0) }
+    ensures { MatchOption result (Embedding (file_wiring file.entry.bytes.now) (column_count (file_wiring file.entry.bytes.now)) (address (file_wiring file.entry.bytes.now)) → ⊥) (Addressed (file_wiring file.entry.bytes.now) words.new) }
 {
-    Answer {
-        number,
-        at,
-        value: 0,
-    }
-}
-
-// Addresses in words that are zero at entry: the number of columns, or `n` where the rack has none.
-fn address_cards(file: &[u8], n: usize, m: usize, hops: &[u8], words: &mut [u64]) -> usize
-    requires { Formed file.now n m × (connected (file_wiring file.now) ≡ true) × HopsIn (file_wiring file.now) hops.now × (words.old ≡ replicate lent_words 0) }
-    ensures { Addressed (file_wiring file.now) n words.new result }
-{
-    let k = open_columns(file, n, m, hops, words);
-    if k == n {
-        return n;
-    }
+    let k = open_columns(file, hops, words)?;
     let ones = ones_table();
-    if pairs_measure(&ones, words, words_used(k), hops, n) {
-        return k;
+    if pairs_measure(&ones, words, words_used(k), hops, file.cards) {
+        Some(k)
+    } else {
+        None
     }
-    n
 }
 
-// 10 or 11 of a connected rack with its hops, or its addresses in words that are zero at entry.
-fn plan_connected(file: &[u8], n: usize, m: usize, words: &mut [u64], hops: &[u8]) -> Answer
-    requires { Formed file.now n m × (connected (file_wiring file.now) ≡ true) × HopsIn (file_wiring file.now) hops.now × (words.old ≡ replicate lent_words 0) }
-    ensures { RackPlanned (file_wiring file.now) result words.new hops.now }
+// The columns of a connected rack with its hops, whose addresses are put in words that are zero at entry, or 10 or 11.
+fn plan_connected(
+    file: FormedFile<'_>,
+    words: &mut [u64; LENT_WORDS],
+    hops: &[u8; LENT_HOPS],
+) -> Result<usize, Refused>
+    requires { (connected (file_wiring file.bytes.now) ≡ true) × HopsIn (file_wiring file.bytes.now) hops.now × (words.old ≡ replicate lent_words 0) }
+    ensures { RackPlanned (file_wiring file.entry.bytes.now) (answer_of result) words.new hops.now }
 {
-    let f = parity_refusal(file, n, m, hops);
-    if f.number != 0 {
-        return refused(f.number, f.at);
-    }
-    let k = address_cards(file, n, m, hops, words);
-    if k == n {
-        return refused(11, 0);
-    }
-    Answer {
-        number: 0,
-        at: 0,
-        value: k as u32,
-    }
+    parity_refusal(file, hops)?;
+    address_cards(file, hops, words).ok_or(Refused::NoAddresses)
 }
 
-// 9, 10, 11 of a file that passed 2 to 8, or its plan in buffers that are zero at entry.
-fn plan_formed(file: &[u8], n: usize, m: usize, words: &mut [u64], hops: &mut [u8]) -> Answer
-    requires { Formed file.now n m × (words.old ≡ replicate lent_words 0) × (hops.old ≡ replicate lent_hops 0) }
-    ensures { RackPlanned (file_wiring file.now) result words.new hops.new }
+// The columns of a file that passed 2 to 8, with its plan in buffers that are zero at entry, or 9, 10 or 11.
+fn plan_formed(
+    file: FormedFile<'_>,
+    words: &mut [u64; LENT_WORDS],
+    hops: &mut [u8; LENT_HOPS],
+) -> Result<usize, Refused>
+    requires { (words.old ≡ replicate lent_words 0) × (hops.old ≡ replicate lent_hops 0) }
+    ensures { RackPlanned (file_wiring file.entry.bytes.now) (answer_of result) words.new hops.new }
 {
     let mut order = [0u16; MOST_LINKS];
-    put_link_order(file, n, m, &mut order);
-    let f = reach_refusal(file, n, m, &order, hops);
-    if f.number != 0 {
-        return refused(f.number, f.at);
-    }
-    all_hops(file, n, m, &order, hops);
-    plan_connected(file, n, m, words, hops)
+    put_link_order(file, &mut order);
+    reach_refusal(file, &order, hops)?;
+    all_hops(file, &order, hops);
+    plan_connected(file, words, hops)
 }
 
-// 2 to 11 of a file, or its plan in buffers that are zero at entry.
-pub fn plan_file(file: &[u8], words: &mut [u64], hops: &mut [u8]) -> Answer
+// The columns of a file that passed 2 to 5, with its plan in buffers that are zero at entry, or 6 to 11.
+fn plan_sized(
+    file: SizedFile<'_>,
+    words: &mut [u64; LENT_WORDS],
+    hops: &mut [u8; LENT_HOPS],
+) -> Result<usize, Refused>
     requires { (words.old ≡ replicate lent_words 0) × (hops.old ≡ replicate lent_hops 0) }
-    ensures { FilePlanned file.now result words.new hops.new }
+    ensures { FilePlanned file.entry.bytes.now (answer_of result) words.new hops.new }
 {
-    let x = sizes_fault(file);
-    if x != 0 {
-        return refused(x, 0);
-    }
-    let n = number_at(file, 0);
-    let m = number_at(file, 2);
-    let f = links_refusal(file, n, m, hops);
-    if f.number != 0 {
-        return refused(f.number, f.at);
-    }
-    clear_bytes(hops);
-    plan_formed(file, n, m, words, hops)
+    let formed = formed_file(file, hops)?;
+    hops.fill(0);
+    plan_formed(formed, words, hops)
 }
 
-// Plans a rack: every card's address and the hops between all cards, or a refusal.
-pub fn plan_rack(file: &[u8], words: &mut [u64], hops: &mut [u8]) -> Answer
-    ensures says { PlanSays file.now result words.old words.new hops.old hops.new }
-    ensures found { Asked file.now words.old hops.old → AddressesFound (file_wiring file.now) result words.new hops.new }
+// The columns of a file, with its plan in buffers that are zero at entry, or 2 to 11.
+pub fn plan_file(
+    file: &[u8],
+    words: &mut [u64; LENT_WORDS],
+    hops: &mut [u8; LENT_HOPS],
+) -> Result<usize, Refused>
+    requires { (words.old ≡ replicate lent_words 0) × (hops.old ≡ replicate lent_hops 0) }
+    ensures { FilePlanned file.now (answer_of result) words.new hops.new }
 {
-    if words.len() != LENT_WORDS {
-        return refused(1, 0);
+    plan_sized(sized_file(file)?, words, hops)
+}
+
+// Plans a rack: every card's address and the hops between all cards, or a refusal; the value is the number of columns.
+pub fn plan_rack(file: &[u8], words: &mut [u64], hops: &mut [u8]) -> Result<u32, Refused>
+    ensures says { PlanSays file.now (answer_of result) words.old words.new hops.old hops.new }
+    ensures found { Asked file.now words.old hops.old → AddressesFound (file_wiring file.now) (answer_of result) words.new hops.new }
+{
+    let Some(words) = words.as_mut_array::<LENT_WORDS>() else {
+        return Err(Refused::Lent);
+    };
+    let Some(hops) = hops.as_mut_array::<LENT_HOPS>() else {
+        return Err(Refused::Lent);
+    };
+    words.fill(0);
+    hops.fill(0);
+    match plan_file(file, words, hops) {
+        Ok(k) => Ok(k as u32),
+        Err(refused) => {
+            words.fill(0);
+            hops.fill(0);
+            Err(refused)
+        }
     }
-    if hops.len() != LENT_HOPS {
-        return refused(1, 0);
-    }
-    clear_words(words);
-    clear_bytes(hops);
-    let answer = plan_file(file, words, hops);
-    if answer.number != 0 {
-        clear_words(words);
-        clear_bytes(hops);
-    }
-    answer
 }
 
 // Writes the plan file of a rack, or a refusal; the value is the used length.
-pub fn write_plan(file: &[u8], output: &mut [u8]) -> Answer
-    ensures says { WriteSays file.now result output.old output.new }
-    ensures found { AskedToWrite file.now output.old → PlanFound (file_wiring file.now) result output.new }
+pub fn write_plan(file: &[u8], output: &mut [u8]) -> Result<u32, Refused>
+    ensures says { WriteSays file.now (answer_of result) output.old output.new }
+    ensures found { AskedToWrite file.now output.old → PlanFound (file_wiring file.now) (answer_of result) output.new }
 {
-    if output.len() != LENT_PLAN {
-        return refused(1, 0);
-    }
+    let Some(output) = output.as_mut_array::<LENT_PLAN>() else {
+        return Err(Refused::Lent);
+    };
+    output.fill(0);
+    let sized = sized_file(file)?;
     let mut words = [0u64; LENT_WORDS];
     let mut hops = [0u8; LENT_HOPS];
-    let answer = plan_file(file, &mut words, &mut hops);
-    clear_bytes(output);
-    if answer.number != 0 {
-        return answer;
-    }
-    let n = number_at(file, 0);
-    let m = number_at(file, 2);
-    let length = put_plan(file, n, m, answer.value as usize, &words, output);
-    Answer {
-        number: 0,
-        at: 0,
-        value: length as u32,
-    }
+    let k = plan_sized(sized, &mut words, &mut hops)?;
+    Ok(put_plan(sized, k, &words, output) as u32)
 }

@@ -1,15 +1,15 @@
 // The test of all pairs: addresses that differ in as many places as there are hops.
-ghost use Rattle.std.specs.Prelude.{◌≡◌, true, false, ◌+◌, ◌/◌, ◌<◌, ◌≤◌, length};
-ghost use Rattle.rack.specs.Limits.{lent_hops, lent_words, most_cards, most_columns};
-ghost use Rattle.counting.specs.Ones.{Counts};
+ghost use Rattle.std.specs.Prelude.{◌≡◌, true, false, ◌+◌, ◌/◌, ◌<◌, ◌≤◌};
+ghost use Rattle.rack.specs.Limits.{most_cards, most_columns};
 ghost use Rattle.planner.specs.OpenColumns.{PairsMeasure, WordsUsed, part_hamming, words_hamming};
 
+use counting::ones::Ones;
 use counting::places::word_hamming;
-use rack::limits::MOST_CARDS;
+use rack::limits::{LENT_HOPS, LENT_WORDS, MOST_CARDS};
 
 // The places in which words `t` of two cards differ.
-fn part_hamming(ones: &[u8; 256], words: &[u64], a: usize, b: usize, t: usize) -> u32
-    requires { Counts ones.now × (length words.now ≡ lent_words) × (a < most_cards) × (b < most_cards) × (t < 4) }
+fn part_hamming(ones: &Ones, words: &[u64; LENT_WORDS], a: usize, b: usize, t: usize) -> u32
+    requires { (a < most_cards) × (b < most_cards) × (t < 4) }
     ensures is { result ≡ part_hamming words.now a b t }
     ensures few { result ≤ 64 }
 {
@@ -26,8 +26,8 @@ pub fn words_used(k: usize) -> usize
 
 // The places in which the words of two cards differ. Those from `used` on are zero: where the first alone is used, the
 // others can't matter and are not counted.
-fn card_hamming(ones: &[u8; 256], words: &[u64], used: usize, a: usize, b: usize) -> u32
-    requires { Counts ones.now × (length words.now ≡ lent_words) × WordsUsed words.now used × (a < most_cards) × (b < most_cards) }
+fn card_hamming(ones: &Ones, words: &[u64; LENT_WORDS], used: usize, a: usize, b: usize) -> u32
+    requires { WordsUsed words.now used × (a < most_cards) × (b < most_cards) }
     ensures { result ≡ words_hamming words.now a b }
 {
     let p = part_hamming(ones, words, a, b, 0);
@@ -41,23 +41,25 @@ fn card_hamming(ones: &[u8; 256], words: &[u64], used: usize, a: usize, b: usize
 }
 
 // Whether every pair of cards has as many differing places as hops; both loops are left at the first pair that has not.
-pub fn pairs_measure(ones: &[u8; 256], words: &[u64], used: usize, hops: &[u8], n: usize) -> bool
-    requires { Counts ones.now × (length words.now ≡ lent_words) × WordsUsed words.now used × (length hops.now ≡ lent_hops) × (n ≤ most_cards) }
+pub fn pairs_measure(
+    ones: &Ones,
+    words: &[u64; LENT_WORDS],
+    used: usize,
+    hops: &[u8; LENT_HOPS],
+    n: usize,
+) -> bool
+    requires { WordsUsed words.now used × (n ≤ most_cards) }
     ensures holds { result ≡ true → PairsMeasure words.now hops.now n }
     ensures fails { result ≡ false → PairsMeasure words.now hops.now n → ⊥ }
 {
     let mut measured = true;
-    let mut a: usize = 0;
-    'pairs: while a < n {
-        let mut b: usize = 0;
-        while b < a {
-            if card_hamming(ones, words, used, a, b) != hops[MOST_CARDS * a + b] as u32 {
+    'pairs: for a in 0..n {
+        for b in 0..a {
+            if card_hamming(ones, words, used, a, b) != u32::from(hops[MOST_CARDS * a + b]) {
                 measured = false;
                 break 'pairs;
             }
-            b += 1;
         }
-        a += 1;
     }
     measured
 }

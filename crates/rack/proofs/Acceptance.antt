@@ -11,7 +11,7 @@ use Rattle.rack.specs.Hops.{hops, connected, unreached}
 use Rattle.rack.specs.Columns.{column_count, address, Embedding, embeds}
 use Rattle.rack.specs.Refusals.{refusal, or_else, lowest_fault, reach_refusal, parity_refusal, embedding_refusal, rack_refusal}
 use Rattle.rack.proofs.Logic.{by_bool, by_eq}
-use Rattle.rack.proofs.Lists.{in_getD}
+use Rattle.rack.proofs.Lists.{in_get_or}
 use Rattle.rack.proofs.Crossing.{Rack, ends_differ}
 use Rattle.rack.proofs.Uniqueness.{addresses_embed}
 use Rattle.rack.proofs.Parity.{parity_clear}
@@ -55,7 +55,7 @@ module _ (w : Wiring) where
   embedding_parity rack k r m =
       lowest_fault_none (link_count w) (λ i. cond (eqb (hops w 0 (link_at w i).first) (hops w 0 (link_at w i).second)) 10 0)
       (λ i h. rw (ne_eqb (hops w 0 (link_at w i).first) (hops w 0 (link_at w i).second)
-      (ends_differ w k r m rack (link_at w i) (in_getD w.links i (link 0 0) h))) refl)
+      (ends_differ w k r m rack (link_at w i) (in_get_or w.links i (link 0 0) h))) refl)
 
   -- 11
   embedding_clear : (embedding_refusal w).number ≡ 0 → Embedding w (column_count w) (address w)

@@ -11,7 +11,7 @@ use Rattle.rack.specs.Columns.{column_count, address, Embedding}
 use Rattle.rack.specs.Refusals.{refusal, links_refusal, well_formed, rack_refusal, wiring_refusal}
 use Rattle.rack.specs.WiringFile.{file_wiring, sizes_fault, form_refusal, file_refusal}
 use Rattle.rack.proofs.Logic.{and_both}
-use Rattle.rack.proofs.Lists.{in_getD}
+use Rattle.rack.proofs.Lists.{in_get_or}
 use Rattle.rack.proofs.Crossing.{Rack, link_inside}
 use Rattle.rack.proofs.Refusals.{or_else_clear, or_else_second, well_formed_rack}
 use Rattle.rack.proofs.Acceptance.{accepted_embedding}
@@ -36,7 +36,7 @@ wiring_accepted w some h =
     record { rack = rack; embedding = a.1; few = omega (arith, few_columns w rack a.1) }
 
 pub accepted_inside : (w : Wiring) → Accepted w → (i : ℕ) → i < link_count w → ((link_at w i).first < w.cards) × ((link_at w i).second < w.cards)
-accepted_inside w a i h = link_inside w a.rack (link_at w i) (in_getD w.links i (link 0 0) h)
+accepted_inside w a i h = link_inside w a.rack (link_at w i) (in_get_or w.links i (link 0 0) h)
 
 -- an accepted file has sizes in range and an accepted wiring; and back
 pub file_clear : (bs : List ℕ) → (file_refusal bs).number ≡ 0 → Sized bs × ((wiring_refusal (file_wiring bs)).number ≡ 0)

@@ -1,14 +1,15 @@
--- A buffer written from its start on: one byte more, numbers of 16 and 32 bits, one block after another. Assumes nothing.
-use mathlib.Core.Path.{◌≡◌, refl, sym, ap, ◌∙◌}
+-- A buffer written from its start on: one byte more, a part at once, one block after another. Assumes nothing.
+use mathlib.Core.Path.{◌≡◌, refl, sym, ap, ap₂, ◌∙◌}
 use mathlib.Core.List.{List, [], ◌∷◌, ◌++◌, append_assoc, append-nil}
-use Prim.Native.Nat.{ℕ, suc, ◌+◌, ◌*◌, ◌-◌, ◌/◌, ◌%◌, ◌<◌}
+use Prim.Native.Nat.{ℕ, suc, ◌+◌, ◌*◌, ◌-◌, ◌<◌, ◌≤◌}
 use native.Mathlib.Omega.{arith}
-use lib.ListN.{length, set, replicate, length-append, length-replicate, length-set}
+use borrow.Rule.Slice.PartMut.{put_mid}
+use lib.ListN.{length, set, take, drop, replicate, length-append, length-replicate, length-set}
+use Rattle.std.proofs.lemmas.List.{take_at, drop_at, drop-replicate}
 use lib.Seq.{set_at, append_snoc}
 use Rattle.rack.specs.Lists.{blocks}
 use Rattle.rack.specs.Buffers.{two_bytes, four_bytes, Written, Appends}
 use Rattle.rack.proofs.Tables.{length_blocks, blocks_snoc}
-use Rattle.rack.proofs.WiringFile.{length_two_bytes}
 
 -- ONE BYTE more
 pub written_more : (out xs : List ℕ) (at b : ℕ) → length xs ≡ at → at < length out → Written out xs → Written (set out at b) (xs ++ (b ∷ []))
@@ -52,13 +53,6 @@ pub appends_then : (at next : ℕ) (old mid new ys zs : List ℕ) → at + lengt
 appends_then at next old mid new ys zs l a b xs e w =
     rw (← (append_assoc xs ys zs)) (b (xs ++ ys) (simp length-append (omega arith)) (a xs e w))
 
-pub appends_two : (at v : ℕ) (old : List ℕ) → at + 1 < length old → Appends at old (set (set old at (v % 256)) (at + 1) (v / 256 % 256)) (two_bytes v)
-unfolding two_bytes
-appends_two at v old h xs e w =
-    let a : Written (set old at (v % 256)) (xs ++ ((v % 256) ∷ [])) = written_more old xs at (v % 256) e (omega arith) w in
-    let b = written_more (set old at (v % 256)) (xs ++ ((v % 256) ∷ [])) (at + 1) (v / 256 % 256) (simp length-append (omega arith)) (simp length-set (omega arith)) a in
-    rw (append_assoc xs ((v % 256) ∷ []) ((v / 256 % 256) ∷ [])) at b
-
 -- A BUFFER written to its end
 pub written_full : (out xs : List ℕ) → length xs ≡ length out → Written out xs → out ≡ xs
 written_full out xs e w =
@@ -70,12 +64,6 @@ pub length_four_bytes : (v : ℕ) → length (four_bytes v) ≡ 4
 unfolding four_bytes two_bytes
 length_four_bytes v = refl
 
-pub appends_four : (at v : ℕ) (old mid new : List ℕ) → Appends at old mid (two_bytes v) → Appends (at + 2) mid new (two_bytes (v / 65536))
-    → Appends at old new (four_bytes v)
-unfolding four_bytes
-appends_four at v old mid new a b =
-    appends_then at (at + 2) old mid new (two_bytes v) (two_bytes (v / 65536)) (ap (λ (k : ℕ). at + k) (length_two_bytes v)) a b
-
 -- BLOCKS, one after another
 pub appended_block : (at c size : ℕ) (old mid new : List ℕ) (f : ℕ → List ℕ) → ((i : ℕ) → length (f i) ≡ size) → length new ≡ length mid
     → Appended at old mid (blocks c f) → Appends (at + c * size) mid new (f c) → Appended at old new (blocks (c + 1) f)
@@ -84,3 +72,19 @@ appended_block at c size old mid new f each long a b =
       long = long ∙ a.long;
       adds = rw (blocks_snoc c f) (appends_then at (at + c * size) old mid new (blocks c f) (f c) (ap (λ (k : ℕ). at + k) (length_blocks c size f each)) a.adds b);
     }
+
+-- A PART written at once: what stood there before does not matter
+pub appends_part : (at n : ℕ) (old ys : List ℕ) → length ys ≡ n → at + n ≤ length old → Appends at old (put_mid at n old ys) ys
+appends_part at n old ys l h xs e w =
+    let r = length old - length xs in
+    let zs = replicate {A = ℕ} r 0 in
+    let before : take at old ≡ xs = ap (λ (s : List ℕ). take at s) w.is ∙ take_at xs zs at e in
+    let behind : drop n (drop at old) ≡ replicate (r - n) 0 =
+    ap (λ (s : List ℕ). drop n (drop at s)) w.is ∙ ap (λ (s : List ℕ). drop n s) (drop_at xs zs at e) ∙ drop-replicate n r 0 in
+    let is : put_mid at n old ys ≡ (xs ++ ys) ++ replicate (r - n) 0 =
+    ap₂ (λ (a b : List ℕ). a ++ (ys ++ b)) before behind ∙ sym (append_assoc xs ys (replicate (r - n) 0)) in
+    let front : length (xs ++ ys) ≡ at + n = simp length-append (omega arith) in
+    let long : length (put_mid at n old ys) ≡ at + n + (r - n) =
+    ap length is ∙ simp (length-append, length-replicate) (omega arith) in
+    let left : length (put_mid at n old ys) - length (xs ++ ys) ≡ r - n = omega arith in
+    record { within = omega arith; is = is ∙ ap (λ (k : ℕ). (xs ++ ys) ++ replicate k 0) (sym left) }

@@ -11,7 +11,7 @@ use Rattle.rack.specs.Hops.{hops}
 use Rattle.rack.specs.Columns.{hamming, Embedding}
 use Rattle.rack.specs.Embeddings.{differing, Choice, list_bits, row_list}
 use Rattle.rack.specs.Promises.{ChoicesAsRows}
-use Rattle.rack.proofs.Tables.{length_tabulate, get_d_tabulate, tabulate_ext, tabulate_getD, count_tabulate}
+use Rattle.rack.proofs.Tables.{length_tabulate, get_or_tabulate, tabulate_ext, tabulate_get_or, count_tabulate}
 use Rattle.rack.proofs.Hamming.{hamming_ext}
 
 differing_hamming : (k : ℕ) (xs ys : List Bool) → length xs ≡ k → length ys ≡ k → differing xs ys ≡ hamming k (λ j. get_or xs j false) (λ j. get_or ys j false)
@@ -36,21 +36,21 @@ module _ (w : Wiring) (k : ℕ) (rs : List (List Bool)) (choice : Choice w k rs)
   unfolding row_list list_bits
   same_list =
       tabulate_ext w.cards (λ c. tabulate k (λ j. get_or (get_or rs c []) j false)) (λ c. get_or rs c [])
-      (λ c h. ap (λ (n : ℕ). tabulate n (λ j. get_or (get_or rs c []) j false)) (sym (choice.long c h)) ∙ tabulate_getD (get_or rs c []) false)
-      ∙ ap (λ (n : ℕ). tabulate n (λ c. get_or rs c [])) (sym choice.each) ∙ tabulate_getD rs []
+      (λ c h. ap (λ (n : ℕ). tabulate n (λ j. get_or (get_or rs c []) j false)) (sym (choice.long c h)) ∙ tabulate_get_or (get_or rs c []) false)
+      ∙ ap (λ (n : ℕ). tabulate n (λ c. get_or rs c [])) (sym choice.each) ∙ tabulate_get_or rs []
 
 -- THE LIST of rows
 module _ (n k : ℕ) (r : ℕ → ℕ → Bool) where
   row_is : (c : ℕ) → c < n → get_or (row_list n k r) c [] ≡ tabulate k (r c)
   unfolding row_list
-  row_is c h = get_d_tabulate n (λ c. tabulate k (r c)) c [] h
+  row_is c h = get_or_tabulate n (λ c. tabulate k (r c)) c [] h
 
   row_long : (c : ℕ) → c < n → length (get_or (row_list n k r) c []) ≡ k
   row_long c h = ap length (row_is c h) ∙ length_tabulate k (r c)
 
   same_bit : (c j : ℕ) → c < n → j < k → list_bits (row_list n k r) c j ≡ r c j
   unfolding list_bits
-  same_bit c j h l = ap (λ (xs : List Bool). get_or xs j false) (row_is c h) ∙ get_d_tabulate k (r c) j false l
+  same_bit c j h l = ap (λ (xs : List Bool). get_or xs j false) (row_is c h) ∙ get_or_tabulate k (r c) j false l
 
 embedding_choice : (w : Wiring) (k : ℕ) (r : ℕ → ℕ → Bool) → Embedding w k r → Choice w k (row_list w.cards k r)
 unfolding row_list list_bits

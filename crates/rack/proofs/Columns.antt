@@ -11,8 +11,8 @@ use Rattle.rack.specs.Wiring.{Link, Wiring}
 use Rattle.rack.specs.Columns.{nearer_first, side, column, same_column, add_column, add_columns, columns, column_count, address, hamming}
 use Rattle.rack.specs.Embeddings.{column_of}
 use Rattle.rack.proofs.Logic.{true_not_false, by_bool, by_lt, differ_self, differ_false}
-use Rattle.rack.proofs.Lists.{In, Distinct, any_in, in_any, in_left, in_right, in_append, in_getD, distinct_snoc, same_eq, same_self}
-use Rattle.rack.proofs.Tables.{get_d_tabulate, getD_tabulate_past, length_tabulate, tabulate_getD, count_tabulate}
+use Rattle.rack.proofs.Lists.{In, Distinct, any_in, in_any, in_left, in_right, in_append, in_get_or, distinct_snoc, same_eq, same_self}
+use Rattle.rack.proofs.Tables.{get_or_tabulate, get_or_tabulate_past, length_tabulate, tabulate_get_or, count_tabulate}
 
 pub same_column_eq : (c d : List Bool) → same_column c d ≡ true → c ≡ d
 unfolding same_column
@@ -64,7 +64,7 @@ pub hamming_count : (cs : List (List Bool)) (a b : ℕ)
 unfolding hamming
 hamming_count cs a b =
     let p : List Bool → Bool = λ c. differ (get_or c a false) (get_or c b false) in
-    sym (count_tabulate p (length cs) (λ j. get_or cs j [])) ∙ ap (count p) (tabulate_getD cs [])
+    sym (count_tabulate p (length cs) (λ j. get_or cs j [])) ∙ ap (count p) (tabulate_get_or cs [])
 
 -- THE COLUMNS of links
 module _ (w : Wiring) where
@@ -107,14 +107,14 @@ module _ (w : Wiring) where
 
   pub column_bit : (l : Link) (c : ℕ) → c < w.cards → get_or (column w l) c false ≡ side w l c
   unfolding column
-  column_bit l c h = get_d_tabulate w.cards (side w l) c false h
+  column_bit l c h = get_or_tabulate w.cards (side w l) c false h
 
   column_zero : (l : Link) → get_or (column w l) 0 false ≡ false
   unfolding column side
   column_zero l =
       by_lt 0 w.cards
       (λ h. column_bit l 0 h ∙ differ_self (nearer_first w l 0))
-      (λ h. getD_tabulate_past w.cards (side w l) 0 false h)
+      (λ h. get_or_tabulate_past w.cards (side w l) 0 false h)
 
   pub past_columns : (c j : ℕ) → column_count w ≤ j → address w c j ≡ false
   unfolding address column_count
@@ -124,20 +124,20 @@ module _ (w : Wiring) where
   unfolding address column_count
   address_zero j =
       by_lt j (length (columns w))
-      (λ h. let r = column_link (get_or (columns w) j []) (in_getD (columns w) j [] h) in rw (← r.2) (column_zero r.0))
+      (λ h. let r = column_link (get_or (columns w) j []) (in_get_or (columns w) j [] h) in rw (← r.2) (column_zero r.0))
       (past_columns 0 j)
 
   -- column j has the cards' bits j
   pub column_long : (j : ℕ) → j < column_count w → length (get_or (columns w) j []) ≡ w.cards
   unfolding column_count column
   column_long j h =
-      let l = column_link (get_or (columns w) j []) (in_getD (columns w) j [] h) in
+      let l = column_link (get_or (columns w) j []) (in_get_or (columns w) j [] h) in
       ap length (sym l.2) ∙ length_tabulate w.cards _
 
   pub column_of_address : (j : ℕ) → j < column_count w → column_of w.cards (address w) j ≡ get_or (columns w) j []
   unfolding column_of address
   column_of_address j h =
-      ap (λ (n : ℕ). tabulate n (λ c. get_or (get_or (columns w) j []) c false)) (sym (column_long j h)) ∙ tabulate_getD (get_or (columns w) j []) false
+      ap (λ (n : ℕ). tabulate n (λ c. get_or (get_or (columns w) j []) c false)) (sym (column_long j h)) ∙ tabulate_get_or (get_or (columns w) j []) false
 
   -- the differing places of two addresses are the columns in which the two cards differ
   pub address_count : (a b : ℕ) → hamming (column_count w) (address w a) (address w b) ≡ count (λ c. differ (get_or c a false) (get_or c b false)) (columns w)

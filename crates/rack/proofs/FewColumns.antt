@@ -13,7 +13,7 @@ use Rattle.rack.specs.Wiring.{Link, Wiring, linked}
 use Rattle.rack.specs.Hops.{hops}
 use Rattle.rack.specs.Columns.{nearer_first, side, columns, column_count, address, Embedding}
 use Rattle.rack.proofs.Logic.{true_not_false, by_bool, by_eq, and_left, and_right, and_both, differ_self, differ_sym, differ_false, differ_cancel}
-use Rattle.rack.proofs.Lists.{In, in_getD, length_le}
+use Rattle.rack.proofs.Lists.{In, in_get_or, length_le}
 use Rattle.rack.proofs.Tables.{length_tabulate, in_tabulate, range_in, distinct_range, lowest_passes, lowest_least}
 use Rattle.rack.proofs.Paths.{link_joins}
 use Rattle.rack.proofs.Hops.{hops_self, hops_zero, hops_down, connected_all}
@@ -34,7 +34,7 @@ side_ends w rack l i =
 column_varies : (w : Wiring) → Rack w → (j : ℕ) → j < column_count w → (v : ℕ) × (v < w.cards) × (differ (address w v j) (address w 0 j) ≡ true)
 unfolding address column_count
 column_varies w rack j h =
-    let r = column_link w (get_or (columns w) j []) (in_getD (columns w) j [] h) in
+    let r = column_link w (get_or (columns w) j []) (in_get_or (columns w) j [] h) in
     let l = r.0 in
     let s = link_inside w rack l r.1 in
     let bit : (c : ℕ) → c < w.cards → address w c j ≡ side w l c = λ c hc. ap (λ (x : List Bool). get_or x c false) (sym r.2) ∙ column_bit w l c hc in

@@ -1,6 +1,7 @@
 pub mod Logic
 pub mod Lists
 pub mod Tables
+pub mod Searches
 pub mod Sums
 pub mod Bits
 pub mod Hamming
@@ -11,6 +12,7 @@ pub mod Crossing
 pub mod Uniqueness
 pub mod Choices
 pub mod Refusals
+pub mod RefusalNumbers
 pub mod LinkFaults
 pub mod Acceptance
 pub mod FewColumns

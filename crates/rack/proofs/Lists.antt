@@ -97,15 +97,15 @@ map_in f [] y m = absurd m
 map_in f (x ∷ xs) y (inl e) = (x, inl refl, e)
 map_in f (x ∷ xs) y (inr m) = let r = map_in f xs y m in (r.0, inr r.1, r.2)
 
-pub in_getD : {A : Type 0} (xs : List A) (i : ℕ) (d : A) → i < length xs → In (get_or xs i d) xs
-in_getD [] i d h = absurd (omega arith)
-in_getD (x ∷ xs) zero d h = inl refl
-in_getD (x ∷ xs) (suc i) d h = inr (in_getD xs i d (omega arith))
+pub in_get_or : {A : Type 0} (xs : List A) (i : ℕ) (d : A) → i < length xs → In (get_or xs i d) xs
+in_get_or [] i d h = absurd (omega arith)
+in_get_or (x ∷ xs) zero d h = inl refl
+in_get_or (x ∷ xs) (suc i) d h = inr (in_get_or xs i d (omega arith))
 
-pub getD_in : {A : Type 0} (xs : List A) (d v : A) → In v xs → (i : ℕ) × (i < length xs) × (get_or xs i d ≡ v)
-getD_in [] d v m = absurd m
-getD_in (x ∷ xs) d v (inl e) = (0, omega arith, e)
-getD_in (x ∷ xs) d v (inr m) = let r = getD_in xs d v m in (suc r.0, omega arith, r.2)
+pub get_or_in : {A : Type 0} (xs : List A) (d v : A) → In v xs → (i : ℕ) × (i < length xs) × (get_or xs i d ≡ v)
+get_or_in [] d v m = absurd m
+get_or_in (x ∷ xs) d v (inl e) = (0, omega arith, e)
+get_or_in (x ∷ xs) d v (inr m) = let r = get_or_in xs d v m in (suc r.0, omega arith, r.2)
 
 -- lists with no element twice
 pub distinct_snoc : {A : Type 0} (v : A) (xs : List A) → Distinct xs → (In v xs → ⊥) → Distinct (xs ++ (v ∷ []))

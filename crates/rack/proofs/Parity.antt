@@ -9,7 +9,7 @@ use borrow.Author.Tests.{eqb-false}
 use Rattle.rack.specs.Wiring.{Link, Wiring, link, link_count, link_at, linked}
 use Rattle.rack.specs.Hops.{has_path, hops}
 use Rattle.rack.specs.Refusals.{parity_refusal}
-use Rattle.rack.proofs.Lists.{In, getD_in}
+use Rattle.rack.proofs.Lists.{In, get_or_in}
 use Rattle.rack.proofs.Paths.{Ends, linked_link, path_next, path_zero}
 use Rattle.rack.proofs.Hops.{hops_path, hops_sym, hops_triangle, connected_all}
 use Rattle.rack.proofs.Crossing.{Rack, hops_one}
@@ -29,7 +29,7 @@ module _ (w : Wiring) (rack : Rack w) (even : (parity_refusal w).number ≡ 0) w
     where
       link_levels : (l : Link) → In l w.links → hops w 0 l.first ≢ hops w 0 l.second
       link_levels l m =
-          let r = getD_in w.links (link 0 0) l m in
+          let r = get_or_in w.links (link 0 0) l m in
           rw r.2 at (parity_clear w even r.0 r.1)
 
       go : (l : Link) × In l w.links × Ends a b l → hops w 0 a ≢ hops w 0 b

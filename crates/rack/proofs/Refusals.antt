@@ -13,7 +13,7 @@ use Rattle.rack.specs.Hops.{hops, connected}
 use Rattle.rack.specs.Columns.{hamming, Embedding, embeds}
 use Rattle.rack.specs.Refusals.{Refusal, refusal, or_else, lowest_fault, most_parallel, link_fault, links_refusal, well_formed}
 use Rattle.rack.proofs.Logic.{by_eq, by_lt, nor_left, nor_right, and_left, and_right}
-use Rattle.rack.proofs.Lists.{In, all_in, in_all, getD_in}
+use Rattle.rack.proofs.Lists.{In, all_in, in_all, get_or_in}
 use Rattle.rack.proofs.Tables.{in_range, range_in, lowest_passes, lowest_first, lowest_is}
 use Rattle.rack.proofs.Paths.{Ends, linked_link}
 use Rattle.rack.proofs.Crossing.{Rack}
@@ -120,7 +120,7 @@ clear_link_fault w i (p, q, apart) few =
 pub links_clear : (w : Wiring) → (links_refusal w).number ≡ 0 → (l : Link) → In l w.links → JoinsCards w l
 unfolding links_refusal
 links_clear w h l m =
-    let r = getD_in w.links (link 0 0) l m in
+    let r = get_or_in w.links (link 0 0) l m in
     subst (JoinsCards w) r.2 (link_fault_clear w r.0 (lowest_fault_clear (link_count w) (link_fault w) h r.0 r.1))
 
 -- so a connected wiring is a rack

@@ -5,7 +5,7 @@ use Prim.Native.Nat.{ℕ, zero, suc, ◌+◌, ◌*◌, ◌≤◌, ◌<◌}
 use native.Mathlib.Omega.{arith}
 use lib.ListN.{length, get_or}
 use Rattle.rack.specs.Lists.{sum, tabulate}
-use Rattle.rack.proofs.Tables.{tabulate_ext, tabulate_getD, map_tabulate}
+use Rattle.rack.proofs.Tables.{tabulate_ext, tabulate_get_or, map_tabulate}
 
 -- THE LAST PLACE
 pub sum_none : (f : ℕ → ℕ) → sum (tabulate 0 f) ≡ 0
@@ -41,4 +41,4 @@ sum_le (suc n) b f h = omega (arith, h 0 (omega arith), sum_le n b (λ i. f (suc
 
 -- a list's elements, each by its place
 pub sum_map : {A : Type 0} (g : A → ℕ) (xs : List A) (d : A) → sum (map g xs) ≡ sum (tabulate (length xs) (λ i. g (get_or xs i d)))
-sum_map g xs d = ap (λ (ys : List _). sum (map g ys)) (sym (tabulate_getD xs d)) ∙ ap sum (map_tabulate g (length xs) (λ i. get_or xs i d))
+sum_map g xs d = ap (λ (ys : List _). sum (map g ys)) (sym (tabulate_get_or xs d)) ∙ ap sum (map_tabulate g (length xs) (λ i. get_or xs i d))

@@ -17,22 +17,22 @@ pub length_tabulate : {A : Type 0} (n : ℕ) (f : ℕ → A) → length (tabulat
 length_tabulate zero f = refl
 length_tabulate (suc n) f = ap suc (length_tabulate n (λ i. f (suc i)))
 
-pub get_d_tabulate : {A : Type 0} (n : ℕ) (f : ℕ → A) (i : ℕ) (d : A) → i < n → get_or (tabulate n f) i d ≡ f i
-get_d_tabulate zero f i d h = absurd (omega arith)
-get_d_tabulate (suc n) f zero d h = refl
-get_d_tabulate (suc n) f (suc i) d h = get_d_tabulate n (λ j. f (suc j)) i d (omega arith)
+pub get_or_tabulate : {A : Type 0} (n : ℕ) (f : ℕ → A) (i : ℕ) (d : A) → i < n → get_or (tabulate n f) i d ≡ f i
+get_or_tabulate zero f i d h = absurd (omega arith)
+get_or_tabulate (suc n) f zero d h = refl
+get_or_tabulate (suc n) f (suc i) d h = get_or_tabulate n (λ j. f (suc j)) i d (omega arith)
 
-pub getD_tabulate_past : {A : Type 0} (n : ℕ) (f : ℕ → A) (i : ℕ) (d : A) → n ≤ i → get_or (tabulate n f) i d ≡ d
-getD_tabulate_past n f i d h = get_or-eq_default (tabulate n f) d {n = i} (omega (arith, length_tabulate n f))
+pub get_or_tabulate_past : {A : Type 0} (n : ℕ) (f : ℕ → A) (i : ℕ) (d : A) → n ≤ i → get_or (tabulate n f) i d ≡ d
+get_or_tabulate_past n f i d h = get_or-eq_default (tabulate n f) d {n = i} (omega (arith, length_tabulate n f))
 
 pub tabulate_ext : {A : Type 0} (n : ℕ) (f g : ℕ → A) → ((i : ℕ) → i < n → f i ≡ g i) → tabulate n f ≡ tabulate n g
 tabulate_ext zero f g h = refl
 tabulate_ext (suc n) f g h = cc (h 0 (omega arith), tabulate_ext n (λ i. f (suc i)) (λ i. g (suc i)) (λ i l. h (suc i) (omega arith)))
 
 -- a list is the table of its elements
-pub tabulate_getD : {A : Type 0} (xs : List A) (d : A) → tabulate (length xs) (λ i. get_or xs i d) ≡ xs
-tabulate_getD [] d = refl
-tabulate_getD (x ∷ xs) d = cc (tabulate_getD xs d)
+pub tabulate_get_or : {A : Type 0} (xs : List A) (d : A) → tabulate (length xs) (λ i. get_or xs i d) ≡ xs
+tabulate_get_or [] d = refl
+tabulate_get_or (x ∷ xs) d = cc (tabulate_get_or xs d)
 
 pub map_tabulate : {A B : Type 0} (g : A → B) (n : ℕ) (f : ℕ → A) → map g (tabulate n f) ≡ tabulate n (λ i. g (f i))
 map_tabulate g zero f = refl
@@ -91,15 +91,15 @@ pub length_blocks : {A : Type 0} (n b : ℕ) (f : ℕ → List A) → ((i : ℕ)
 length_blocks zero b f h = omega arith
 length_blocks (suc n) b f h = simp length-append (omega (arith, h 0, length_blocks n b (λ i. f (suc i)) (λ i. h (suc i))))
 
-pub getD_blocks : {A : Type 0} (n b : ℕ) (f : ℕ → List A) → ((i : ℕ) → length (f i) ≡ b) → (i j : ℕ) (d : A) → i < n → j < b
+pub get_or_blocks : {A : Type 0} (n b : ℕ) (f : ℕ → List A) → ((i : ℕ) → length (f i) ≡ b) → (i j : ℕ) (d : A) → i < n → j < b
     → get_or (blocks n f) (i * b + j) d ≡ get_or (f i) j d
-getD_blocks zero b f h i j d hi hj = absurd (omega arith)
-getD_blocks (suc n) b f h zero j d hi hj =
+get_or_blocks zero b f h i j d hi hj = absurd (omega arith)
+get_or_blocks (suc n) b f h zero j d hi hj =
     let e : 0 * b + j ≡ j = omega arith in
     rw e (get_or-append (f 0) (blocks n (λ i. f (suc i))) d j (omega (arith, h 0)))
-getD_blocks (suc n) b f h (suc i) j d hi hj =
+get_or_blocks (suc n) b f h (suc i) j d hi hj =
     let e : suc i * b + j ≡ length (f 0) + (i * b + j) = omega (arith, h 0) in
-    rw e (get_or-append-add (f 0) (blocks n (λ i. f (suc i))) (i * b + j) d ∙ getD_blocks n b (λ i. f (suc i)) (λ i. h (suc i)) i j d (omega arith) hj)
+    rw e (get_or-append-add (f 0) (blocks n (λ i. f (suc i))) (i * b + j) d ∙ get_or_blocks n b (λ i. f (suc i)) (λ i. h (suc i)) i j d (omega arith) hj)
 
 pub blocks_ext : {A : Type 0} (n : ℕ) (f g : ℕ → List A) → ((i : ℕ) → i < n → f i ≡ g i) → blocks n f ≡ blocks n g
 blocks_ext zero f g h = refl

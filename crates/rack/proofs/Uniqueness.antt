@@ -14,7 +14,7 @@ use Rattle.rack.specs.Columns.{columns, column_count, address, hamming, Embeddin
 use Rattle.rack.specs.Embeddings.{column_of, constant, from_card_zero, reduced_columns}
 use Rattle.rack.proofs.Logic.{true_not_false, not_true_false, by_bool, or_cases, nor_left, nor_right, differ_self, differ_sym, differ_false, differ_cancel}
 use Rattle.rack.proofs.Lists.{In, Distinct, all_in, all_false, in_filter, filter_in, in_map, map_in, distinct_filter, distinct_map, count_ext, count_map, count_filter, count_le, length_le}
-use Rattle.rack.proofs.Tables.{get_d_tabulate, tabulate_ext, map_tabulate, in_tabulate, tabulate_in, in_range, range_in, distinct_range}
+use Rattle.rack.proofs.Tables.{get_or_tabulate, tabulate_ext, map_tabulate, in_tabulate, tabulate_in, in_range, range_in, distinct_range}
 use Rattle.rack.proofs.Paths.{Ends, Changes, path_changes, linked_link}
 use Rattle.rack.proofs.Hops.{hops_path, connected_all}
 use Rattle.rack.proofs.Columns.{link_column, column_link, columns_distinct, address_count}
@@ -27,7 +27,7 @@ relative n r j = tabulate n (λ c. differ (r c j) (r 0 j))
 from_zero_relative : (n : ℕ) → 0 < n → (r : ℕ → ℕ → Bool) (j : ℕ) → from_card_zero (column_of n r j) ≡ relative n r j
 unfolding from_card_zero column_of
 from_zero_relative n some r j =
-    rw (get_d_tabulate n (λ c. r c j) 0 false some) (by_bool (r 0 j) complement same)
+    rw (get_or_tabulate n (λ c. r c j) 0 false some) (by_bool (r 0 j) complement same)
   where
     complement : r 0 j ≡ true → cond (r 0 j) (map not (tabulate n (λ c. r c j))) (tabulate n (λ c. r c j)) ≡ relative n r j
     complement e = rw e (map_tabulate not n (λ c. r c j) ∙ tabulate_ext n (λ c. not (r c j)) (λ c. differ (r c j) true) (λ c h. differ_sym true (r c j)))
@@ -72,7 +72,7 @@ module _ (n : ℕ) (r : ℕ → ℕ → Bool) (j : ℕ) where
       not_true_false (constant (column_of n r j)) (λ t. true_not_false (differ (r v.0 j) (r v.1 j)) v.4 (constant_agrees t v.0 v.1 v.2 v.3))
 
   relative_bit : (c : ℕ) → c < n → get_or (relative n r j) c false ≡ differ (r c j) (r 0 j)
-  relative_bit c h = get_d_tabulate n (λ c. differ (r c j) (r 0 j)) c false h
+  relative_bit c h = get_or_tabulate n (λ c. differ (r c j) (r 0 j)) c false h
 
 module _ (w : Wiring) (rack : Rack w) (k : ℕ) (r : ℕ → ℕ → Bool) (m : Embedding w k r) where
   -- a link that crosses a column that varies

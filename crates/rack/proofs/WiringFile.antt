@@ -14,7 +14,7 @@ use Rattle.rack.specs.Limits.{most_cards, most_links}
 use Rattle.rack.specs.Buffers.{number_at, two_bytes}
 use Rattle.rack.specs.WiringFile.{wiring_at, file_wiring, sizes_fault, end_bytes, file_bytes}
 use Rattle.rack.proofs.Logic.{and_left, and_right}
-use Rattle.rack.proofs.Tables.{length_tabulate, get_d_tabulate, tabulate_ext, tabulate_getD, length_blocks, getD_blocks, part_then, blocks_part}
+use Rattle.rack.proofs.Tables.{length_tabulate, get_or_tabulate, tabulate_ext, tabulate_get_or, length_blocks, get_or_blocks, part_then, blocks_part}
 use Rattle.rack.proofs.Refusals.{cond_zero}
 
 -- TWO BYTES
@@ -51,8 +51,8 @@ number_at_blocks n f i h l =
     let e : 2 * i ≡ i * 2 + 0 = omega arith in
     let g : suc (2 * i) ≡ i * 2 + 1 = omega arith in
     ap₂ (λ (a b : ℕ). a + 256 * b)
-    (ap (λ (p : ℕ). get_or (blocks n (λ i. two_bytes (f i))) p 0) e ∙ getD_blocks n 2 (λ i. two_bytes (f i)) (λ i. refl) i 0 0 h (omega arith))
-    (ap (λ (p : ℕ). get_or (blocks n (λ i. two_bytes (f i))) p 0) g ∙ getD_blocks n 2 (λ i. two_bytes (f i)) (λ i. refl) i 1 0 h (omega arith))
+    (ap (λ (p : ℕ). get_or (blocks n (λ i. two_bytes (f i))) p 0) e ∙ get_or_blocks n 2 (λ i. two_bytes (f i)) (λ i. refl) i 0 0 h (omega arith))
+    (ap (λ (p : ℕ). get_or (blocks n (λ i. two_bytes (f i))) p 0) g ∙ get_or_blocks n 2 (λ i. two_bytes (f i)) (λ i. refl) i 1 0 h (omega arith))
     ∙ two_bytes_value (f i) l
 
 -- A WIRING whose numbers fit 16 bits
@@ -97,7 +97,7 @@ module _ (w : Wiring) (f : Fits w) (head rest : List ℕ) (base : ℕ) (long : l
   unfolding wiring_at
   wiring_at_written en em =
       rw (en, em)
-      (ap (wiring w.cards) (tabulate_ext (link_count w) _ (link_at w) ends ∙ tabulate_getD w.links (link 0 0)))
+      (ap (wiring w.cards) (tabulate_ext (link_count w) _ (link_at w) ends ∙ tabulate_get_or w.links (link 0 0)))
     where
       ends : (i : ℕ) → i < link_count w → link (number_at written (base + 2 * i)) (number_at written (base + 2 * link_count w + 2 * i)) ≡ link_at w i
       ends i h =
@@ -124,7 +124,7 @@ wiring_at_count base bs = length_tabulate (number_at bs 2) _
 pub wiring_at_link : (base : ℕ) (bs : List ℕ) (i : ℕ) → i < number_at bs 2
     → link_at (wiring_at base bs) i ≡ link (number_at bs (base + 2 * i)) (number_at bs (base + 2 * number_at bs 2 + 2 * i))
 unfolding wiring_at
-wiring_at_link base bs i h = get_d_tabulate (number_at bs 2) _ i (link 0 0) h
+wiring_at_link base bs i h = get_or_tabulate (number_at bs 2) _ i (link 0 0) h
 
 pub record Sized (bs : List ℕ) : Type 0 where
   pub head : 4 ≤ length bs

@@ -6,6 +6,7 @@ pub mod Wiring
 pub mod Hops
 pub mod Columns
 pub mod Refusals
+pub mod Refused
 pub mod WiringFile
 pub mod Formed
 pub mod PlanFile

@@ -1,5 +1,5 @@
 -- Counts, sums, searches and tables over lists and numbers. Assumes nothing: these are definitions.
-use Rattle.std.specs.Prelude.{Bool, true, false, ◌&&◌, ◌||◌, not, cond, List, [], ◌∷◌, ◌++◌, ℕ, zero, suc, ◌+◌}
+use Rattle.std.specs.Prelude.{◌≡◌, Bool, true, false, ◌&&◌, ◌||◌, not, cond, List, [], ◌∷◌, ◌++◌, Option, None, Some, ℕ, zero, suc, ◌+◌, ◌<◌}
 
 -- two bits differ
 abbrev pub differ : (x y : Bool) → Bool
@@ -49,6 +49,11 @@ sum (x ∷ xs) = x + sum xs
 abbrev pub lowest : (n : ℕ) → (ℕ → Bool) → ℕ
 lowest zero p = 0
 lowest (suc n) p = let later = suc (lowest n (λ i. p (suc i))) in cond (p 0) 0 later
+
+-- the place x below n, where it was looked for: none exactly where x is the end, n
+abbrev pub FoundBelow : (n x : ℕ) → Option ℕ → Type 0
+FoundBelow n x None = x ≡ n
+FoundBelow n x (Some i) = (i ≡ x) × (i < n)
 
 -- equal lists, by a test of their elements
 abbrev pub same : {A : Type 0} → (A → A → Bool) → (xs ys : List A) → Bool

@@ -1,5 +1,6 @@
 -- Plan files: where the sizes, the wiring and the addresses stand in their bytes. Assumes nothing: these are definitions.
-use Rattle.std.specs.Prelude.{Bool, List, ℕ, ◌+◌, ◌*◌, ◌/◌, get_or}
+use Rattle.std.specs.Prelude.{◌≡◌, Bool, List, ℕ, ◌+◌, ◌*◌, ◌/◌, ◌≤◌, get_or, length}
+use Rattle.rack.specs.Limits.{most_cards, most_links, most_columns}
 use Rattle.rack.specs.Bits.{bits_of}
 use Rattle.rack.specs.Wiring.{Wiring}
 use Rattle.rack.specs.Buffers.{number_at}
@@ -31,6 +32,17 @@ addresses_start m = 6 + 4 * m
 -- where the address of card c begins
 abbrev pub address_start : List ℕ → (c : ℕ) → ℕ
 address_start ps c = addresses_start (plan_links ps) + c * address_size (plan_columns ps)
+
+-- n cards, m links and k columns, in their ranges, and the length that they give
+pub record Sized (ps : List ℕ) (n m k : ℕ) : Type 0 where
+  pub cards : n ≡ plan_cards ps
+  pub links : m ≡ plan_links ps
+  pub columns : k ≡ plan_columns ps
+  pub some : 1 ≤ n
+  pub few : n ≤ most_cards
+  pub few_links : m ≤ most_links
+  pub few_columns : k ≤ most_columns
+  pub long : length ps ≡ addresses_start m + n * address_size k
 
 -- bit j of the bytes from a place on
 unfoldable pub bit_from : List ℕ → (at j : ℕ) → Bool

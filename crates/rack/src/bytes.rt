@@ -4,20 +4,13 @@ ghost use Rattle.rack.specs.Wiring.{link_at};
 ghost use Rattle.rack.specs.Buffers.{Appends, four_bytes, number_at, number32_at, two_bytes};
 ghost use Rattle.rack.specs.WiringFile.{wiring_at};
 
-// A number of 16 bits as a place.
-pub fn wide(x: u16) -> usize
-    ensures { result ≡ x }
-{
-    x as usize
-}
-
 // The number of 16 bits at a place, low byte first.
 pub fn number_at(bytes: &[u8], at: usize) -> usize
     requires { at + 1 < length bytes.now }
     ensures is { result ≡ number_at bytes.now at }
     ensures small { result < 65536 }
 {
-    bytes[at] as usize + 256 * (bytes[at + 1] as usize)
+    usize::from(u16::from_le_bytes([bytes[at], bytes[at + 1]]))
 }
 
 // The number of 32 bits at a place.
@@ -25,7 +18,7 @@ pub fn number32_at(bytes: &[u8], at: usize) -> u32
     requires { at + 4 ≤ length bytes.now }
     ensures { result ≡ number32_at bytes.now at }
 {
-    number_at(bytes, at) as u32 + 65536 * (number_at(bytes, at + 2) as u32)
+    u32::from_le_bytes([bytes[at], bytes[at + 1], bytes[at + 2], bytes[at + 3]])
 }
 
 // Appends a number of 16 bits, low byte first, to bytes that are written up to `at`.
@@ -33,8 +26,8 @@ pub fn put_number(output: &mut [u8], at: usize, v: usize)
     requires { at + 1 < length output.old }
     ensures { Appends at output.old output.new (two_bytes v) }
 {
-    output[at] = (v % 256) as u8;
-    output[at + 1] = (v / 256 % 256) as u8;
+    let bytes = ((v % 65536) as u16).to_le_bytes();
+    output[at..at + 2].copy_from_slice(&bytes);
 }
 
 // Appends a number of 32 bits.
@@ -42,8 +35,7 @@ pub fn put_number32(output: &mut [u8], at: usize, v: u32)
     requires { at + 4 ≤ length output.old }
     ensures { Appends at output.old output.new (four_bytes v) }
 {
-    put_number(output, at, v as usize);
-    put_number(output, at + 2, (v / 65536) as usize);
+    output[at..at + 4].copy_from_slice(&v.to_le_bytes());
 }
 
 // The first end of link `i` of `m`, in bytes whose ends stand from `base` on.

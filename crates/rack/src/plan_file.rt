@@ -1,4 +1,4 @@
-// Where the addresses stand in a plan file.
+// Plan files seen with their sizes, and where the addresses stand in them.
 ghost use Rattle.std.specs.Prelude.{◌≡◌, ◌+◌, ◌*◌, ◌≤◌};
 ghost use Rattle.rack.specs.Limits.{lent_plan, most_cards, most_columns, most_links};
 ghost use Rattle.rack.specs.PlanFile.{address_size, addresses_start};

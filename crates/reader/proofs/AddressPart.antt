@@ -7,12 +7,16 @@ use native.Mathlib.Nat.{add-sub_cancel_left}
 use native.Mathlib.Omega.{arith}
 use lib.ListN.{length, take, drop}
 use borrow.Author.Tests.{eq-eqb, ne_eqb, le-leb, lt-leb}
-use Rattle.rack.specs.PlanFile.{plan_cards, plan_columns, address_size, addresses_start, address_start}
+use Rattle.rack.specs.PlanFile.{plan_cards, plan_columns, address_size, addresses_start, address_start, Sized}
 use Rattle.rack.proofs.Logic.{by_eq, by_lt}
-use Rattle.reader.specs.Plan.{plan_refusal}
-use Rattle.reader.specs.Reading.{SizesSay, ReadSays, LaidOut, PartIs, card_refusal, part_unless, offset_unless, address_refusal}
-use Rattle.reader.specs.declared.layout.Sizes.{Sizes}
-use Rattle.reader.proofs.Plan.{layout_facts, layout_read, plan_clear}
+use Rattle.std.specs.Borrow.{Bor}
+use Rattle.std.specs.Prelude.{Result, Ok, Err, IfOk}
+use Rattle.rack.specs.Refused.{refusal_of, number_of}
+use Rattle.rack.specs.declared.refused.Refused.{Refused}
+use Rattle.rack.specs.declared.views.Plan.{Plan}
+use Rattle.reader.specs.Reading.{AddressSays, PartIs, ReadSays, address_refusal, card_refusal, offset_unless, part_unless, sizes_of}
+use Rattle.reader.proofs.Reading.{read_laid_out}
+use Rattle.rack.proofs.RefusalNumbers.{refusal_numbered}
 use Rattle.reader.proofs.Addresses.{address_counted}
 
 -- THE NUMBER: the refusal before it, 14 or none
@@ -46,52 +50,38 @@ module _ (ps : List ℕ) (c x : ℕ) where
   unfolding offset_unless part_unless
   clear_part e = rw (eq-eqb x 0 e) (refl, refl)
 
-  -- the number and the slice that are handed out of a plan, so far behind its first byte, with these bytes
-  abbrev Handed : (number far : ℕ) (bs : List ℕ) → Type 0
-  Handed number far bs = (at : ℕ × ℕ) → PartIs x ps at c (record { ref_ptr = (at.0, far + at.1); now = bs }) × (number ≡ x)
+-- THE PART THAT IS HANDED OUT of a plan with its sizes
+module _ (ps : List ℕ) (n m k : ℕ) (z : Sized ps n m k) (c : ℕ) (inside : c < n) where
+  abbrev size : ℕ
+  size = address_size k
 
-  handed : (number far : ℕ) (bs : List ℕ) → far ≡ offset_unless x ps c → bs ≡ part_unless x ps c → number ≡ x → Handed number far bs
-  handed number far bs place bytes e at = (record { place = ap (λ (y : ℕ). (at.0, y + at.1)) place; bytes = bytes }, e)
+  abbrev start : ℕ
+  start = addresses_start m + c * size
 
-  none_handed : (number : ℕ) → number ≢ 0 → number ≡ x → Handed number 0 []
-  none_handed number d e = let z = refused_part (λ h. d (e ∙ h)) in handed number 0 [] (sym z.0) (sym z.1) e
+  counted : (start ≡ address_start ps c) × (start + size ≤ length ps) × (size ≡ (k + 7) / 8)
+  counted = address_counted ps z c size start inside refl refl
 
--- AS THE CODE goes on from the sizes
-module _ (ps : List ℕ) (c : ℕ) (r : Sizes) where
-  abbrev refusal : ℕ
-  refusal = card_refusal r.number (plan_cards ps) c
+  pub address_handed : (at : ℕ × ℕ) → PartIs 0 ps at c (record { ref_ptr = (at.0, start + at.1); now = take (start + size - start) (drop start ps) })
+  address_handed at =
+      let e = clear_part ps c 0 refl in
+      record {
+        place = ap (λ (y : ℕ). (at.0, y + at.1)) (counted.0 ∙ sym e.0);
+        bytes = rw (add-sub_cancel_left, counted.0, z.columns) (sym e.1);
+      }
 
-  pub address_refused : r.number ≢ 0 → Handed ps c refusal r.number 0 []
-  address_refused d = none_handed ps c refusal r.number d (sym (refused_before r.number (plan_cards ps) c d))
-
-  module _ (e : r.number ≡ 0) (laid : LaidOut ps r) where
-    pub address_outside : r.cards ≤ c → Handed ps c refusal 14 0 []
-    address_outside h =
-        none_handed ps c refusal 14 (λ z. omega arith) (sym (card_outside r.number (plan_cards ps) c e (omega (arith, laid.cards))))
-
-    -- the part that begins at the start and has the size that the code counts
-    module _ (size start : ℕ) (inside : c < r.cards) (sized : size ≡ address_size r.columns) (starts : start ≡ addresses_start r.links + c * size) where
-      counted : (start ≡ address_start ps c) × (start + size ≤ length ps) × (size ≡ (r.columns + 7) / 8)
-      counted = address_counted ps r laid c size start inside sized starts
-
-      pub address_ends : start + size ≤ length ps
-      address_ends = counted.1
-
-      pub address_handed : Handed ps c refusal r.number start (take (start + size - start) (drop start ps))
-      address_handed =
-          let clear = card_inside r.number (plan_cards ps) c e (omega (arith, laid.cards)) in
-          let z = clear_part ps c refusal clear in
-          handed ps c refusal r.number start (take (start + size - start) (drop start ps)) (counted.0 ∙ sym z.0)
-          (rw (add-sub_cancel_left, counted.0, sized, laid.columns) (sym z.1)) (e ∙ sym clear)
-
--- AS READING answers: the sizes are a layout's, and the number is the plan's
-module _ (ps : List ℕ) (c : ℕ) (r : Sizes) (s : ReadSays ps r) where
-  pub read_laid_out : r.number ≡ 0 → LaidOut ps r
-  read_laid_out e =
-      let read : plan_refusal ps ≡ 0 = sym s.number ∙ e in
-      let answered : SizesSay ps 0 r = rw read at s in
-      layout_read ps r answered (layout_facts ps (plan_clear ps read).0)
-
-  pub read_refusal : card_refusal r.number (plan_cards ps) c ≡ address_refusal ps c
+-- AS READING answers, then 14
+module _ (ps : List ℕ) (at : ℕ × ℕ) (c : ℕ) (p : Plan) (s : ReadSays ps (sizes_of (Ok p))) where
+  read_then : card_refusal 0 p.cards c ≡ address_refusal ps c
   unfolding address_refusal
-  read_refusal = rw s.number refl
+  read_then = let e = (read_laid_out ps _ s refl).cards in rw (← s.number, e) refl
+
+  pub address_read : (r : Result (Bor (List ℕ)) Refused) → number_of r ≡ card_refusal 0 p.cards c → IfOk r (PartIs 0 ps at c)
+      → IfOk r (AddressSays ps at c) × (number_of r ≡ address_refusal ps c)
+  address_read (Ok part) e h = let z = e ∙ read_then in (rw (← z) h, z)
+  address_read (Err f) e h = (tt, e ∙ read_then)
+
+pub address_refused : (ps : List ℕ) (c : ℕ) (e : Refused) → ReadSays ps (sizes_of (Err e)) → (refusal_of e).number ≡ address_refusal ps c
+unfolding address_refusal
+address_refused ps c e s =
+    let x = (refusal_of e).number in
+    rw (← s.number) (sym (refused_before x (plan_cards ps) c (refusal_numbered e)))

@@ -19,14 +19,12 @@ use Rattle.rack.proofs.Accepted.{Accepted, accepted_inside}
 use Rattle.rack.proofs.WiringFile.{Fits}
 use Rattle.planner.specs.PlanBytes.{plan_bytes}
 use Rattle.planner.proofs.PlanBytes.{length_plan, written_cards, written_links, written_columns, written_wiring}
-use Rattle.rack.specs.PlanFile.{plan_cards, plan_links, plan_columns, plan_wiring, address_size, addresses_start}
+use Rattle.rack.specs.PlanFile.{plan_cards, plan_links, plan_columns, plan_wiring, address_size, addresses_start, Sized}
 use Rattle.reader.specs.Plan.{layout_holds, content_holds, plan_refusal}
-use Rattle.reader.specs.Reading.{LaidOut, SizesSay}
-use Rattle.reader.specs.declared.layout.Sizes.{Sizes}
 
--- THE LAYOUT: the test holds exactly with the facts of `Laid_out`, at the sizes that the plan has
+-- THE LAYOUT: the test holds exactly with the facts of `Sized`, at the sizes that the plan has
 abbrev pub Layout : List ℕ → Type 0
-Layout ps = LaidOut ps (record { number = 0; cards = plan_cards ps; links = plan_links ps; columns = plan_columns ps })
+Layout ps = Sized ps (plan_cards ps) (plan_links ps) (plan_columns ps)
 
 module _ (ps : List ℕ) where
   abbrev layout_length : ℕ
@@ -59,31 +57,27 @@ module _ (ps : List ℕ) where
       (leb-true (plan_columns ps) most_columns (and_right t₄ (leb (plan_columns ps) most_columns) h₅))
       (eqb-true (length ps) layout_length (and_right t₅ long_test h))
 
-  pub layout_head : {s : Sizes} → LaidOut ps s → 6 ≤ length ps
+  pub layout_head : {n m k : ℕ} → Sized ps n m k → 6 ≤ length ps
   layout_head z = omega (arith, z.long)
 
-  pub facts_layout : {s : Sizes} → LaidOut ps s → layout_holds ps ≡ true
+  pub facts_layout : {n m k : ℕ} → Sized ps n m k → layout_holds ps ≡ true
   unfolding layout_holds
-  facts_layout {s} z =
+  facts_layout {n} {m} {k} z =
       rw (
         ← z.cards,
         ← z.links,
         ← z.columns,
         le-leb 6 (length ps) (layout_head z),
-        le-leb 1 s.cards z.some,
-        le-leb s.cards most_cards z.few,
-        le-leb s.links most_links z.few_links,
-        le-leb s.columns most_columns z.few_columns,
-        eq-eqb (length ps) (addresses_start s.links + s.cards * address_size s.columns) z.long,
+        le-leb 1 n z.some,
+        le-leb n most_cards z.few,
+        le-leb m most_links z.few_links,
+        le-leb k most_columns z.few_columns,
+        eq-eqb (length ps) (addresses_start m + n * address_size k) z.long,
       ) refl
 
   -- whoever has read the sizes has the same facts of what was read
-  pub layout_read : (s : Sizes) → SizesSay ps 0 s → Layout ps → LaidOut ps s
-  layout_read s e z = read s.number s.cards s.links s.columns e.number e.cards e.links e.columns
-    where
-      read : (x n m k : ℕ) → x ≡ 0 → n ≡ plan_cards ps → m ≡ plan_links ps → k ≡ plan_columns ps
-          → LaidOut ps (record { number = x; cards = n; links = m; columns = k })
-      read x n m k ex en em ek = rw (ex, en, em, ek) z
+  pub layout_read : (n m k : ℕ) → n ≡ plan_cards ps → m ≡ plan_links ps → k ≡ plan_columns ps → Layout ps → Sized ps n m k
+  layout_read n m k en em ek z = rw (en, em, ek) z
 
   -- A PLAN THAT WAS READ
   pub plan_clear : plan_refusal ps ≡ 0 → (layout_holds ps ≡ true) × ((wiring_refusal (plan_wiring ps)).number ≡ 0) × (plan_bytes (plan_wiring ps) ≡ ps)

@@ -24,7 +24,7 @@ use Rattle.rack.proofs.WiringFile.{Fits, wiring_at_cards, wiring_at_count, file_
 use Rattle.counting.proofs.Bytes.{hamming_table}
 use Rattle.planner.specs.PlanBytes.{plan_bytes}
 use Rattle.planner.specs.Planning.{left_in, writing_refusal, WriteSays}
-use Rattle.planner.specs.declared.Answer.{Answer}
+use Rattle.planner.specs.Answer.{Answer}
 use Rattle.planner.proofs.PlanBytes.{written_links, written_columns, written_byte, written_bit}
 use Rattle.rack.specs.PlanFile.{plan_cards, plan_columns, plan_wiring, bit_from, plan_bit, plan_hamming, address_size, address_start}
 use Rattle.rack.proofs.Bits.{bits_value_number, bits_value_fits}
@@ -32,8 +32,7 @@ use Rattle.rack.proofs.PlanFile.{address_size_is}
 use Rattle.reader.specs.Plan.{plan_refusal}
 use Rattle.reader.specs.Promises.{ReadExactly, CallsAgree, LayoutInRange, AddressFits, Measured, ReaderPromise, HopsByTable, RefusedAddressEmpty}
 use Rattle.reader.specs.Promises.{NoSuchCard, LargestPlan, AddressWhole}
-use Rattle.reader.specs.Reading.{ReadSays, card_refusal, address_refusal, address_part}
-use Rattle.reader.specs.declared.layout.Sizes.{Sizes}
+use Rattle.reader.specs.Reading.{Sizes, ReadSays, card_refusal, address_refusal, address_part}
 use Rattle.reader.proofs.Plan.{Layout, layout_of, layout_facts, facts_layout, plan_clear, plan_read, accepted_fits, accepted_columns_fit, layout_head, plan_refusal_most}
 use Rattle.reader.proofs.AddressPart.{refused_before, card_outside, card_inside, clear_card, refused_part, clear_part}
 use Rattle.reader.proofs.Addresses.{address_counted}
@@ -181,7 +180,7 @@ module _ (ps : List ℕ) (c : ℕ) (e : address_refusal ps c ≡ 0) where
 
   handed_size : length (address_part ps c) ≡ size
   handed_size =
-      let z = address_counted ps _ (layout_facts ps (plan_clear ps card_read.0).0) c size start card_read.1 refl refl in
+      let z = address_counted ps (layout_facts ps (plan_clear ps card_read.0).0) c size start card_read.1 refl refl in
       ap length (clear_part ps c (address_refusal ps c) e).1 ∙ length_part start size ps z.1
 
   handed_bit : (j : ℕ) → j < 8 * size → bit_from (address_part ps c) 0 j ≡ plan_bit ps c j

@@ -3,10 +3,10 @@ use mathlib.Core.Path.{◌≡◌, refl, sym, ap, ◌∙◌}
 use mathlib.Core.Bool.{Bool, true, false}
 use mathlib.Core.Logic.{◌≢◌}
 use mathlib.Core.List.{List, ◌++◌}
-use Prim.Native.Nat.{ℕ, ◌-◌, ◌≤◌}
+use Prim.Native.Nat.{ℕ, ◌+◌, ◌*◌, ◌-◌, ◌≤◌}
 use native.Mathlib.Omega.{arith}
 use lib.Dec.{eqb}
-use lib.ListN.{length, take, replicate, length-append}
+use lib.ListN.{length, take, drop, replicate, length-append, length-replicate}
 use lib.Seq.{take_at}
 use borrow.Author.Tests.{eqb-true, eq-eqb, ne_eqb}
 use Rattle.rack.specs.Lists.{same}
@@ -16,16 +16,15 @@ use Rattle.rack.proofs.Lists.{same_eq}
 use Rattle.planner.specs.PlanBytes.{plan_bytes}
 use Rattle.rack.specs.Limits.{lent_plan}
 use Rattle.planner.specs.Planning.{left_in, writing_refusal, WriteSays}
-use Rattle.planner.specs.declared.Answer.{Answer}
-use Rattle.rack.specs.PlanFile.{plan_wiring}
+use Rattle.planner.specs.Answer.{Answer}
+use Rattle.rack.specs.PlanFile.{plan_wiring, Sized}
 use Rattle.reader.specs.Plan.{layout_holds, content_holds, plan_refusal}
 use Rattle.reader.specs.Promises.{Measured}
-use Rattle.reader.specs.Reading.{SizesSay, no_sizes, layout_refusal, LayoutSays, ReadSays}
-use Rattle.reader.specs.declared.layout.Sizes.{Sizes}
-use Rattle.reader.proofs.Plan.{layout_facts}
+use Rattle.reader.specs.Reading.{Sizes, SizesSay, no_sizes, layout_refusal, LayoutSays, ReadSays}
+use Rattle.reader.proofs.Plan.{layout_facts, facts_layout}
 use Rattle.reader.proofs.Promises.{read_measured}
 use Rattle.reader.proofs.Reading.{no_sizes_say, says_layout}
-use Rattle.reader.proofs.InnerFile.{inner_file, inner_wiring, inner_refusal}
+use Rattle.reader.proofs.InnerFile.{inner_file, inner_wiring, inner_refusal, inner_lent}
 
 module _ (ps : List ℕ) (r : Sizes) (s : LayoutSays ps r) where
   -- 12
@@ -50,6 +49,16 @@ pub record InnerWritten (ps : List ℕ) (a : Answer) (old out : List ℕ) : Type
   pub layout : layout_holds ps ≡ true
   pub room : length old ≡ lent_plan
   pub says : WriteSays (inner_file ps) a old out
+
+-- where that file was copied to the front of a buffer
+pub inner_written : (ps o : List ℕ) {n m k : ℕ} → Sized ps n m k → take (4 + 4 * m) o ≡ take 4 (drop 0 ps) ++ take (4 * m) (drop 6 ps)
+    → (a : Answer) (out : List ℕ) → WriteSays (take (4 + 4 * m - 0) o) a (replicate lent_plan 0) out → InnerWritten ps a (replicate lent_plan 0) out
+inner_written ps o {n} {m} {k} z copied a out says =
+    record {
+      layout = facts_layout ps z;
+      room = length-replicate {A = ℕ} lent_plan 0;
+      says = rw (inner_lent ps o m z.links copied) at says;
+    }
 
 module _ (ps : List ℕ) (a : Answer) (o out : List ℕ) (w : InnerWritten ps a o out) where
   abbrev plan : List ℕ

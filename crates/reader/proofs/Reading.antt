@@ -8,10 +8,9 @@ use native.Mathlib.Omega.{arith}
 use borrow.Author.Tests.{ne_eqb}
 use Rattle.rack.proofs.Logic.{by_bool, not_true_false}
 use Rattle.rack.proofs.Refusals.{cond_within}
-use Rattle.reader.specs.Plan.{layout_holds}
-use Rattle.reader.specs.Reading.{LaidOut, SizesSay, no_sizes, layout_refusal, LayoutSays}
-use Rattle.reader.specs.declared.layout.Sizes.{Sizes}
-use Rattle.reader.proofs.Plan.{Layout, layout_facts, facts_layout, layout_read}
+use Rattle.reader.specs.Plan.{layout_holds, plan_refusal}
+use Rattle.reader.specs.Reading.{Sizes, LaidOut, SizesSay, no_sizes, layout_refusal, LayoutSays, ReadSays}
+use Rattle.reader.proofs.Plan.{Layout, layout_facts, facts_layout, layout_read, plan_clear}
 
 module _ (ps : List ℕ) where
   -- 12 OR NONE
@@ -45,8 +44,18 @@ module _ (ps : List ℕ) where
 
   pub says_laid_out : (r : Sizes) → LayoutSays ps r → r.number ≡ 0 → LaidOut ps r
   unfolding layout_refusal
-  says_laid_out r s e = let t = says_layout r s e in layout_read ps r (rw t at s) (layout_facts ps t)
+  says_laid_out r s e =
+      let t = says_layout r s e in
+      let z : SizesSay ps 0 r = rw t at s in
+      layout_read ps r.cards r.links r.columns z.cards z.links z.columns (layout_facts ps t)
 
   pub says_no_layout : (r : Sizes) → LayoutSays ps r → r.number ≢ 0 → layout_holds ps ≡ false
   unfolding layout_refusal
   says_no_layout r s n = not_true_false (layout_holds ps) (λ (t : layout_holds ps ≡ true). n (let f : SizesSay ps 0 r = rw t at s in f.number))
+
+  -- the same of what reading answers
+  pub read_laid_out : (r : Sizes) → ReadSays ps r → r.number ≡ 0 → LaidOut ps r
+  read_laid_out r s e =
+      let read : plan_refusal ps ≡ 0 = sym s.number ∙ e in
+      let z : SizesSay ps 0 r = rw read at s in
+      layout_read ps r.cards r.links r.columns z.cards z.links z.columns (layout_facts ps (plan_clear ps read).0)

@@ -10,11 +10,10 @@ use Rattle.rack.specs.WiringFile.{file_wiring, file_refusal, file_bytes}
 use Rattle.counting.specs.Ones.{Counts}
 use Rattle.planner.specs.PlanBytes.{plan_bytes}
 use Rattle.planner.specs.Planning.{WriteSays}
-use Rattle.planner.specs.declared.Answer.{Answer}
+use Rattle.planner.specs.Answer.{Answer}
 use Rattle.rack.specs.PlanFile.{plan_cards, plan_links, plan_columns, plan_wiring, bit_from, plan_hamming, address_size, address_start}
 use Rattle.reader.specs.Plan.{layout_holds, plan_refusal}
-use Rattle.reader.specs.Reading.{ReadSays, address_refusal, address_part}
-use Rattle.reader.specs.declared.layout.Sizes.{Sizes}
+use Rattle.reader.specs.Reading.{Sizes, ReadSays, address_refusal, address_part}
 
 -- "A plan file is read exactly if it is the one that the planner writes for the wiring inside it": that wiring is accepted;
 -- and what the planner writes for an accepted file is read, with the same wiring inside

@@ -1,22 +1,32 @@
 -- What reading a plan answers. Assumes nothing: these are definitions.
-use Rattle.std.specs.Prelude.{◌≡◌, cond, List, [], ℕ, ◌+◌, ◌*◌, ◌≤◌, leb, eqb, length, take, drop}
+use Rattle.std.specs.Prelude.{◌≡◌, cond, List, [], ℕ, ◌+◌, leb, eqb, take, drop, Result, Ok, Err}
 use Rattle.std.specs.Borrow.{Bor}
 use Rattle.rack.specs.Buffers.{SliceIs}
-use Rattle.rack.specs.Limits.{most_cards, most_links, most_columns}
-use Rattle.rack.specs.PlanFile.{plan_cards, plan_links, plan_columns, address_size, addresses_start, address_start}
+use Rattle.rack.specs.PlanFile.{plan_cards, plan_links, plan_columns, address_size, address_start, Sized}
+use Rattle.rack.specs.Refused.{refusal_of}
+use Rattle.rack.specs.declared.refused.Refused.{Refused}
+use Rattle.rack.specs.declared.views.Plan.{Plan}
 use Rattle.reader.specs.Plan.{layout_holds, plan_refusal}
-use Rattle.reader.specs.declared.layout.Sizes.{Sizes}
+
+-- a refusal's number, 0 for none, and with 0 a plan's three sizes
+pub record Sizes : Type 0 where
+  pub number : ℕ
+  pub cards : ℕ
+  pub links : ℕ
+  pub columns : ℕ
+
+-- a refusal's number and zeros
+abbrev pub no_sizes : (refused : ℕ) → Sizes
+no_sizes refused = record { number = refused; cards = 0; links = 0; columns = 0 }
+
+-- what a call answers that gives a plan with its sizes
+abbrev pub sizes_of : Result Plan Refused → Sizes
+sizes_of (Ok p) = record { number = 0; cards = p.cards; links = p.links; columns = p.columns }
+sizes_of (Err e) = no_sizes (refusal_of e).number
 
 -- the sizes of a plan that passed 12
-pub record LaidOut (ps : List ℕ) (s : Sizes) : Type 0 where
-  pub cards : s.cards ≡ plan_cards ps
-  pub links : s.links ≡ plan_links ps
-  pub columns : s.columns ≡ plan_columns ps
-  pub some : 1 ≤ s.cards
-  pub few : s.cards ≤ most_cards
-  pub few_links : s.links ≤ most_links
-  pub few_columns : s.columns ≤ most_columns
-  pub long : length ps ≡ addresses_start s.links + s.cards * address_size s.columns
+abbrev pub LaidOut : List ℕ → Sizes → Type 0
+LaidOut ps s = Sized ps s.cards s.links s.columns
 
 -- a number, and with 0 the plan's three sizes, else zeros
 pub record SizesSay (ps : List ℕ) (refused : ℕ) (r : Sizes) : Type 0 where
@@ -24,10 +34,6 @@ pub record SizesSay (ps : List ℕ) (refused : ℕ) (r : Sizes) : Type 0 where
   pub cards : r.cards ≡ cond (eqb refused 0) (plan_cards ps) 0
   pub links : r.links ≡ cond (eqb refused 0) (plan_links ps) 0
   pub columns : r.columns ≡ cond (eqb refused 0) (plan_columns ps) 0
-
--- a refusal's number and zeros
-abbrev pub no_sizes : (refused : ℕ) → Sizes
-no_sizes refused = record { number = refused; cards = 0; links = 0; columns = 0 }
 
 -- 12 or 0; 12, 13 or 0
 unfoldable pub layout_refusal : List ℕ → ℕ

@@ -1,61 +1,34 @@
-// A plan's layout: refusal 12, and the three sizes.
-ghost use Rattle.std.specs.Prelude.{◌≡◌};
-ghost use Rattle.reader.specs.Reading.{LayoutSays, no_sizes};
+// A plan's layout: refusal 12, or the plan seen with its sizes.
+ghost use Rattle.std.specs.Prelude.{◌≡◌, IfOk};
+ghost use Rattle.reader.specs.Reading.{LayoutSays, sizes_of};
 
 use rack::bytes::number_at;
 use rack::limits::{MOST_CARDS, MOST_COLUMNS, MOST_LINKS};
 use rack::plan_file::{address_size, address_start};
+use rack::refused::Refused;
+use rack::views::Plan;
 
-// A refusal's number, 0 for none, and with 0 a plan's sizes.
-#[derive(Clone, Copy)]
-pub struct Sizes {
-    pub number: u32,
-    pub cards: u32,
-    pub links: u32,
-    pub columns: u32,
-}
-
-// A refusal's number and zeros.
-pub fn no_sizes(number: u32) -> Sizes
-    ensures { result ≡ no_sizes number }
-{
-    Sizes {
-        number: number,
-        cards: 0,
-        links: 0,
-        columns: 0,
-    }
-}
-
-// The sizes of a plan, or 12.
-pub fn plan_layout(plan: &[u8]) -> Sizes
-    ensures { LayoutSays plan.now result }
+// A plan with its sizes, or 12.
+pub fn plan_layout(plan: &[u8]) -> Result<Plan<'_>, Refused>
+    ensures says { LayoutSays plan.now (sizes_of result) }
+    ensures bytes { IfOk result (λ p. p.bytes ≡ plan.entry) }
 {
     if plan.len() < 6 {
-        return no_sizes(12);
+        return Err(Refused::Layout);
     }
     let n = number_at(plan, 0);
     let m = number_at(plan, 2);
     let k = number_at(plan, 4);
-    if n == 0 {
-        return no_sizes(12);
-    }
-    if MOST_CARDS < n {
-        return no_sizes(12);
-    }
-    if MOST_LINKS < m {
-        return no_sizes(12);
-    }
-    if MOST_COLUMNS < k {
-        return no_sizes(12);
+    if n == 0 || MOST_CARDS < n || MOST_LINKS < m || MOST_COLUMNS < k {
+        return Err(Refused::Layout);
     }
     if plan.len() != address_start(m, address_size(k), n) {
-        return no_sizes(12);
+        return Err(Refused::Layout);
     }
-    Sizes {
-        number: 0,
-        cards: n as u32,
-        links: m as u32,
-        columns: k as u32,
-    }
+    Ok(Plan {
+        bytes: plan,
+        cards: n,
+        links: m,
+        columns: k,
+    })
 }

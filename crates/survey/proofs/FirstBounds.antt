@@ -5,11 +5,13 @@ use mathlib.Core.Logic.{◌≢◌}
 use mathlib.Core.List.{List}
 use Prim.Native.Nat.{ℕ, ◌+◌, ◌*◌, ◌-◌, ◌≤◌, ◌<◌}
 use native.Mathlib.Omega.{arith}
-use lib.Dec.{ltb, eqb}
-use lib.ListN.{length, set, length-set, get_or-eq_default}
+use borrow.Rule.Slice.PartMut.{put_mid, mid_of}
+use lib.Dec.{eqb}
+use lib.ListN.{length, get_or, set, replicate, length-set}
 use lib.Seq.{get_or-set_same, get_or-set_other}
-use borrow.Author.Tests.{le-leb, lt-leb, lt-ltb, le-ltb, eq-eqb, ne_eqb}
-use Rattle.rack.specs.Limits.{lent_hops}
+use borrow.Author.Tests.{lt-ltb, le-ltb, eq-eqb, ne_eqb}
+use Rattle.std.proofs.Common.{rules, length-take, length-drop}
+use Rattle.std.proofs.lemmas.List.{places}
 use Rattle.rack.specs.Wiring.{Wiring}
 use Rattle.rack.specs.Hops.{hops, connected}
 use Rattle.rack.specs.WiringFile.{file_wiring}
@@ -17,82 +19,86 @@ use Rattle.rack.proofs.Logic.{by_eq, by_lt}
 use Rattle.rack.proofs.Hops.{hops_self, connected_all}
 use Rattle.rack.specs.Formed.{Formed}
 use Rattle.survey.specs.Tables.{cell}
-use Rattle.survey.specs.Lowering.{Above, RowFilled, Started, row_bound, place_bound, first_bound}
+use Rattle.survey.specs.Lowering.{Above, Started, first_bound}
 use Rattle.survey.proofs.Forms.{formed_cards, formed_few}
 
-either_zero : (t : Bool) {x : ℕ} → x ≡ 0 → cond t 0 x ≡ 0
-either_zero true e = refl
-either_zero false e = e
+either_zero : (t : Bool) → cond {A = ℕ} t 0 0 ≡ 0
+either_zero true = refl
+either_zero false = refl
 
 -- THE FIRST BOUNDS by cases
 module _ (n a b : ℕ) where
-  pub first_bound_row : n ≤ a → first_bound n a b ≡ 0
-  unfolding first_bound place_bound row_bound
-  first_bound_row h = rw (le-leb n a h) (either_zero (eqb a b) (either_zero (ltb b n) refl))
-
   pub first_bound_place : n ≤ b → first_bound n a b ≡ 0
-  unfolding first_bound place_bound
-  first_bound_place h = rw (le-ltb b n h) (either_zero (eqb a b) refl)
+  unfolding first_bound
+  first_bound_place h = rw (le-ltb b n h) (either_zero (eqb a b))
 
   pub first_bound_self : a ≡ b → first_bound n a b ≡ 0
   unfolding first_bound
   first_bound_self e = rw (eq-eqb a b e) refl
 
-  pub first_bound_other : a < n → b < n → a ≢ b → first_bound n a b ≡ n - 1
-  unfolding first_bound place_bound row_bound
-  first_bound_other ha hb ne = rw (ne_eqb a b ne, lt-ltb b n hb, lt-leb n a ha) refl
+  pub first_bound_other : b < n → a ≢ b → first_bound n a b ≡ n - 1
+  unfolding first_bound
+  first_bound_other hb ne = rw (ne_eqb a b ne, lt-ltb b n hb) refl
 
--- A ROW filled place by place
-module _ (n bound : ℕ) where
-  pub filled_none : (h : List ℕ) (a : ℕ) → RowFilled n bound h h a 0
-  filled_none h a = record { long = refl; before = λ i l. refl; is = λ b l. absurd (omega arith) }
+-- A PART of a list filled with one number: its length, its places, and those before and behind it
+module _ (at k v : ℕ) (old : List ℕ) (inside : at + k ≤ length old) where
+  abbrev filled : List ℕ
+  filled = put_mid at k old (replicate k v)
 
-  pub filled_more : (old h : List ℕ) (a b v : ℕ) → length old ≡ lent_hops → a < 256 → b < 256 → v ≡ place_bound n bound b → RowFilled n bound old h a b
-      → RowFilled n bound old (set h (256 * a + b) v) a (b + 1)
-  filled_more old h a b v long ha hb e f =
-      record {
-        long = length-set h (256 * a + b) v ∙ f.long;
-        before = λ i l. get_or-set_other h (256 * a + b) i v 0 (λ z. omega arith) ∙ f.before i l;
-        is = λ x l. by_eq x b
-            (λ (z : x ≡ b). rw z (get_or-set_same h (256 * a + b) v 0 (omega (arith, f.long)) ∙ e))
-            (λ (z : x ≢ b). get_or-set_other h (256 * a + b) (256 * a + x) v 0 (λ y. z (omega arith)) ∙ f.is x (omega arith));
-      }
+  filled_long : length filled ≡ length old
+  filled_long = search (rules, places)
+
+  filled_in : (b : ℕ) → b < k → get_or filled (at + b) 0 ≡ v
+  filled_in b l = search (rules, places)
+
+  filled_before : (i : ℕ) → i < at → get_or filled i 0 ≡ get_or old i 0
+  filled_before i l = search (rules, places)
+
+  filled_behind : (i : ℕ) → at + k ≤ i → get_or filled i 0 ≡ get_or old i 0
+  filled_behind i l = search (rules, places)
 
 -- THE TABLE row by row
-pub started_none : (n : ℕ) (h : List ℕ) → length h ≡ lent_hops → Started n h 0
-started_none n h e = record { long = e; is = λ a b hb l. absurd (omega arith) }
+module _ (n a : ℕ) (old : List ℕ) (few : n ≤ 256) (ha : a < n) (s : Started n old a) where
+  inside : 256 * a + n ≤ length old
+  inside = omega (arith, s.long)
 
-pub started_row : (n : ℕ) (old h : List ℕ) (a : ℕ) → a < 256 → Started n old a → RowFilled n (row_bound n a) old h a 256 → Started n (set h (256 * a + a) 0) (a + 1)
-unfolding first_bound
-started_row n old h a ha s f =
-    record { long = length-set h (256 * a + a) 0 ∙ f.long ∙ s.long; is = λ x b hb l. by_eq x a (row x b hb) (earlier x b hb l) }
-  where
-    row : (x b : ℕ) → b < 256 → x ≡ a → cell (set h (256 * a + a) 0) x b ≡ first_bound n x b
-    row x b hb e =
-        by_eq a b
-        (λ (z : a ≡ b). rw (e, ← z, eq-eqb a a refl) (get_or-set_same h (256 * a + a) 0 0 (omega (arith, f.long, s.long))))
-        (λ (z : a ≢ b). rw (e, ne_eqb a b z) (get_or-set_other h (256 * a + a) (256 * a + b) 0 0 (λ y. z (omega arith)) ∙ f.is b hb))
+  abbrev row : List ℕ
+  row = filled (256 * a) n (n - 1) old inside
 
-    earlier : (x b : ℕ) → b < 256 → x < a + 1 → x ≢ a → cell (set h (256 * a + a) 0) x b ≡ first_bound n x b
-    earlier x b hb l ne =
-        get_or-set_other h (256 * a + a) (256 * x + b) 0 0 (λ y. omega arith) ∙ f.before (256 * x + b) (omega arith) ∙ s.is x b hb (omega arith)
+  row_started : Started n (set row (256 * a + a) 0) (a + 1)
+  row_started =
+      record {
+        long = length-set row (256 * a + a) 0 ∙ filled_long (256 * a) n (n - 1) old inside ∙ s.long;
+        is = λ x b hb l. by_eq x a (here x b hb) (earlier x b hb l);
+        rest = λ i l. get_or-set_other row (256 * a + a) i 0 0 (omega arith) ∙ filled_behind (256 * a) n (n - 1) old inside i (omega arith) ∙ s.rest i (omega arith);
+      }
+    where
+      here : (x b : ℕ) → b < 256 → x ≡ a → cell (set row (256 * a + a) 0) x b ≡ first_bound n x b
+      here x b hb e =
+          rw e (by_eq a b
+          (λ z. rw (← z) (get_or-set_same row (256 * a + a) 0 0 (omega (arith, filled_long (256 * a) n (n - 1) old inside, s.long)) ∙ sym (first_bound_self n a a refl)))
+          (λ z. get_or-set_other row (256 * a + a) (256 * a + b) 0 0 (omega arith) ∙ by_lt b n
+          (λ l. filled_in (256 * a) n (n - 1) old inside b l ∙ sym (first_bound_other n a b l z))
+          (λ l. filled_behind (256 * a) n (n - 1) old inside (256 * a + b) (omega arith) ∙ s.rest (256 * a + b) (omega arith) ∙ sym (first_bound_place n a b l))))
 
-module _ (w : Wiring) (h : List ℕ) (few : w.cards ≤ 256) (whole : connected w ≡ true) (s : Started w.cards h 256) where
-  at_cards : (a b : ℕ) → a < w.cards → b < w.cards → cell h a b ≡ first_bound w.cards a b
-  at_cards a b ha hb = s.is a b (omega arith) (omega arith)
+      earlier : (x b : ℕ) → b < 256 → x < a + 1 → x ≢ a → cell (set row (256 * a + a) 0) x b ≡ first_bound n x b
+      earlier x b hb l ne =
+          get_or-set_other row (256 * a + a) (256 * x + b) 0 0 (omega arith)
+          ∙ filled_before (256 * a) n (n - 1) old inside (256 * x + b) (omega arith) ∙ s.is x b hb (omega arith)
 
-  -- past the table's end there is nothing
-  elsewhere : (a b : ℕ) → b < 256 → first_bound w.cards a b ≡ 0 → cell h a b ≡ 0
-  elsewhere a b hb z =
-      by_lt a 256
-      (λ l. s.is a b hb l ∙ z)
-      (λ l. get_or-eq_default h 0 (omega (arith, s.long)))
+  pub started_row : (k : ℕ) (ys : List ℕ) → k ≡ n → ys ≡ replicate (length (mid_of (256 * a) k old)) (n - 1)
+      → Started n (set (put_mid (256 * a) k old ys) (256 * a + a) 0) (a + 1)
+  started_row k ys e f =
+      let here : length (mid_of (256 * a) n old) ≡ n = simp (length-take, length-drop) (omega arith) in
+      rw (f, e, here) row_started
 
+module _ (w : Wiring) (h : List ℕ) (few : w.cards ≤ 256) (whole : connected w ≡ true) (s : Started w.cards h w.cards) where
   between : (a b : ℕ) → a < w.cards → b < w.cards → (hops w a b ≤ cell h a b) × (cell h a b ≤ w.cards)
   between a b ha hb =
+      let z = s.is a b (omega arith) ha in
       by_eq a b
-      (λ e. let z = at_cards a b ha hb ∙ first_bound_self w.cards a b e in (rw e (omega (arith, hops_self w b)), omega arith))
-      (λ ne. let z = at_cards a b ha hb ∙ first_bound_other w.cards a b ha hb ne in (omega (arith, connected_all w whole a b ha hb), omega arith))
+      (λ e. (rw e (omega (arith, hops_self w b)), omega (arith, first_bound_self w.cards a b e)))
+      (λ ne. let f = first_bound_other w.cards a b hb ne in (omega (arith, connected_all w whole a b ha hb), omega arith))
 
   started_above : Above w h
   started_above =
@@ -100,11 +106,13 @@ module _ (w : Wiring) (h : List ℕ) (few : w.cards ≤ 256) (whole : connected 
         long = s.long;
         over = λ a b ha hb. (between a b ha hb).0;
         most = λ a b ha hb. (between a b ha hb).1;
-        self = λ a ha. at_cards a a ha ha ∙ first_bound_self w.cards a a refl;
-        rows = λ a b hb l. elsewhere a b hb (first_bound_row w.cards a b l);
-        places = λ a b hb l. elsewhere a b hb (first_bound_place w.cards a b l);
+        self = λ a ha. s.is a a (omega arith) ha ∙ first_bound_self w.cards a a refl;
+        rows = λ a b hb l. s.rest (256 * a + b) (omega arith);
+        places = λ a b hb l. by_lt a w.cards
+            (λ k. s.is a b hb k ∙ first_bound_place w.cards a b l)
+            (λ k. s.rest (256 * a + b) (omega arith));
       }
 
-pub formed_above : (bs h : List ℕ) (n m : ℕ) → Formed bs n m → connected (file_wiring bs) ≡ true → Started n h 256 → Above (file_wiring bs) h
+pub formed_above : (bs h : List ℕ) (n m : ℕ) → Formed bs n m → connected (file_wiring bs) ≡ true → Started n h n → Above (file_wiring bs) h
 formed_above bs h n m f whole s =
-    started_above (file_wiring bs) h (formed_few bs n m f) whole (subst (λ (x : ℕ). Started x h 256) (sym (formed_cards bs n m f)) s)
+    started_above (file_wiring bs) h (formed_few bs n m f) whole (subst (λ (x : ℕ). Started x h x) (sym (formed_cards bs n m f)) s)

@@ -17,7 +17,7 @@ use Rattle.rack.specs.Hops.{hops, unreached, connected}
 use Rattle.rack.specs.Refusals.{refusal, reach_refusal}
 use Rattle.rack.specs.WiringFile.{file_wiring}
 use Rattle.rack.proofs.Logic.{by_eq, by_lt}
-use Rattle.rack.proofs.Lists.{In, in_getD, getD_in, count_le_length, count_more}
+use Rattle.rack.proofs.Lists.{In, in_get_or, get_or_in, count_le_length, count_more}
 use Rattle.rack.proofs.Tables.{length_tabulate, in_range, distinct_range, lowest_is}
 use Rattle.rack.proofs.Paths.{Ends, Changes, linked_link, link_joins, linked_sym, path_one, path_join, path_changes}
 use Rattle.rack.proofs.Hops.{hops_le, hops_path, path_below, hops_self, zero_connected}
@@ -93,7 +93,7 @@ module _ (bs : List ℕ) (n m : ℕ) (formed : Formed bs n m) (s : List ℕ) (i 
   cards = cards_are bs n m formed.sizes
 
   joined : linked (file_wiring bs) p q ≡ true
-  joined = rw (ep, eq) (link_joins (file_wiring bs) (link_at (file_wiring bs) i) (in_getD (file_wiring bs).links i (link 0 0) (omega (arith, links_are bs n m formed.sizes))))
+  joined = rw (ep, eq) (link_joins (file_wiring bs) (link_at (file_wiring bs) i) (in_get_or (file_wiring bs).links i (link 0 0) (omega (arith, links_are bs n m formed.sizes))))
 
   few : (file_wiring bs).cards ≤ 256
   few = omega (arith, cards, formed.sizes.few)
@@ -104,15 +104,6 @@ module _ (bs : List ℕ) (n m : ℕ) (formed : Formed bs n m) (s : List ℕ) (i 
   inside_second : q < (file_wiring bs).cards
   inside_second = omega (arith, cards, formed.second i inside)
 
-  pub link_still : get_or s p 0 ≡ get_or s q 0 → Spread (file_wiring bs) s s i (i + 1) 0
-  link_still e =
-      record {
-        flagged = flagged;
-        more = omega arith;
-        still = λ z. refl;
-        closed = λ z j h g. let d : j ≡ i = omega arith in rw (d, ← ep, ← eq) e;
-      }
-
   pub link_first : get_or s p 0 ≢ get_or s q 0 → get_or s p 0 ≡ 0 → Spread (file_wiring bs) s (set s p 1) i (i + 1) 1
   link_first ne z =
       spread_more (file_wiring bs) s p q flagged few inside_first inside_second (linked_sym (file_wiring bs) p q joined) z (λ e. ne (z ∙ sym e)) i
@@ -120,22 +111,6 @@ module _ (bs : List ℕ) (n m : ℕ) (formed : Formed bs n m) (s : List ℕ) (i 
   pub link_second : get_or s p 0 ≢ get_or s q 0 → get_or s p 0 ≢ 0 → Spread (file_wiring bs) s (set s q 1) i (i + 1) 1
   link_second ne n =
       spread_more (file_wiring bs) s q p flagged few inside_second inside_first joined (omega (arith, flagged.flag p, flagged.flag q)) n i
-
--- MANY LINKS
-pub none_spread : (w : Wiring) (s : List ℕ) (i : ℕ) → Flagged w s → Spread w s s i i 0
-none_spread w s i f = record { flagged = f; more = omega arith; still = λ z. refl; closed = λ z j a b. absurd (omega arith) }
-
-pub then_spread : (w : Wiring) (old mid new : List ℕ) (i j k a b : ℕ) → Spread w old mid i j a → Spread w mid new j k b → Spread w old new i k (a + b)
-then_spread w old mid new i j k a b x y =
-    record {
-      flagged = y.flagged;
-      more = omega (arith, x.more, y.more);
-      still = λ z. y.still (omega arith) ∙ x.still (omega arith);
-      closed = λ z c h g. by_lt c j (λ l. earlier z c h l) (λ l. y.closed (omega arith) c l g);
-    }
-  where
-    earlier : a + b ≡ 0 → (c : ℕ) → i ≤ c → c < j → get_or new (link_at w c).first 0 ≡ get_or new (link_at w c).second 0
-    earlier z c h l = let e : new ≡ mid = y.still (omega arith) in rw e (x.closed (omega arith) c h l)
 
 -- CARD 0 ALONE
 pub first_flag : (w : Wiring) (s : List ℕ) → s ≡ replicate lent_hops 0 → 1 ≤ w.cards → Flagged w (set s 0 1)
@@ -154,8 +129,8 @@ first_flag w s e some =
 module _ (w : Wiring) (s : List ℕ) (flagged : Flagged w s)
     (closed : (i : ℕ) → i < link_count w → get_or s (link_at w i).first 0 ≡ get_or s (link_at w i).second 0) where
   same_flags : (d e : ℕ) (l : Link) → In l w.links → Ends d e l → get_or s d 0 ≡ get_or s e 0
-  same_flags d e l m (inl f) = let r = getD_in w.links (link 0 0) l m in cc (closed r.0 r.1)
-  same_flags d e l m (inr f) = let r = getD_in w.links (link 0 0) l m in cc (closed r.0 r.1)
+  same_flags d e l m (inl f) = let r = get_or_in w.links (link 0 0) l m in cc (closed r.0 r.1)
+  same_flags d e l m (inr f) = let r = get_or_in w.links (link 0 0) l m in cc (closed r.0 r.1)
 
   no_change : Changes w (is_flagged s) → ⊥
   no_change (d, e, j, td, te) =

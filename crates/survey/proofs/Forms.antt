@@ -9,18 +9,16 @@ use lib.ListN.{length}
 use borrow.Author.Tests.{lt-ltb, le-ltb, le-leb, lt-leb, ne_eqb}
 use Rattle.rack.specs.Wiring.{Link, link, link_count, link_at, linked}
 use Rattle.rack.specs.Hops.{connected}
-use Rattle.rack.specs.Refusals.{Refusal, refusal, link_fault, links_refusal}
+use Rattle.rack.specs.Refusals.{link_fault, links_refusal}
 use Rattle.rack.specs.Limits.{most_cards, most_links}
 use Rattle.rack.specs.Buffers.{number_at}
 use Rattle.rack.specs.WiringFile.{file_wiring, sizes_fault}
-use Rattle.rack.proofs.Lists.{In, in_getD, getD_in}
+use Rattle.rack.proofs.Lists.{In, in_get_or, get_or_in}
 use Rattle.rack.proofs.Paths.{link_joins}
 use Rattle.rack.proofs.Crossing.{Rack}
 use Rattle.rack.proofs.Refusals.{JoinsCards, joined_rack, lowest_fault_clear, link_fault_clear}
-use Rattle.rack.proofs.WiringFile.{Sized, sizes_clear, wiring_at_cards, wiring_at_count}
+use Rattle.rack.proofs.WiringFile.{wiring_at_cards, wiring_at_count}
 use Rattle.rack.specs.Formed.{SizesAre, Formed}
-use Rattle.survey.specs.Refusing.{RefusedIs}
-use Rattle.survey.specs.declared.links.Refused.{Refused}
 
 -- 2 TO 5, each where the tests before it pass
 module _ (bs : List ℕ) where
@@ -54,18 +52,6 @@ module _ (bs : List ℕ) where
         ) refl
 
 -- A FILE THAT PASSED
-pub sizes_are : (bs : List ℕ) (n m : ℕ) → sizes_fault bs ≡ 0 → n ≡ number_at bs 0 → m ≡ number_at bs 2 → SizesAre bs n m
-sizes_are bs n m h en em =
-    let z : Sized bs = sizes_clear bs h in
-    record {
-      cards = en;
-      links = em;
-      some = omega (arith, z.some);
-      few = omega (arith, z.cards);
-      few_links = omega (arith, z.links);
-      long = omega (arith, z.long);
-    }
-
 module _ (bs : List ℕ) (n m : ℕ) (sizes : SizesAre bs n m) where
   pub cards_are : (file_wiring bs).cards ≡ n
   cards_are = wiring_at_cards 4 bs ∙ sym sizes.cards
@@ -106,17 +92,13 @@ module _ (bs : List ℕ) (n m : ℕ) (f : Formed bs n m) where
 
   pub formed_linked : (i : ℕ) → i < m → linked (file_wiring bs) (link_at (file_wiring bs) i).first (link_at (file_wiring bs) i).second ≡ true
   formed_linked i h =
-      link_joins (file_wiring bs) (link_at (file_wiring bs) i) (in_getD (file_wiring bs).links i (link 0 0) (omega (arith, formed_count)))
+      link_joins (file_wiring bs) (link_at (file_wiring bs) i) (in_get_or (file_wiring bs).links i (link 0 0) (omega (arith, formed_count)))
 
   pub formed_rack : connected (file_wiring bs) ≡ true → Rack (file_wiring bs)
   formed_rack c = joined_rack (file_wiring bs) (omega (arith, formed_cards, f.sizes.some)) joins_cards c
     where
       joins_cards : (l : Link) → In l (file_wiring bs).links → JoinsCards (file_wiring bs) l
       joins_cards l i =
-          let at = getD_in (file_wiring bs).links (link 0 0) l i in
+          let at = get_or_in (file_wiring bs).links (link 0 0) l i in
           let h : at.0 < m = omega (arith, formed_count, at.1) in
           subst (JoinsCards (file_wiring bs)) at.2 (formed_first at.0 h, formed_second at.0 h, f.apart at.0 h)
-
--- what was said has the number and the place of a refusal
-pub refused_is : (r : Refused) (f : Refusal) (x i : ℕ) → r.number ≡ x → r.at ≡ i → f ≡ refusal x i → RefusedIs r f
-refused_is r f x i a b e = record { number = rw e a; at = rw e b }

@@ -1,5 +1,5 @@
 -- Passes over the links: what lowering by one link does, passes joined, and hops where a pass lowers nothing. Assumes nothing.
-use mathlib.Core.Path.{◌≡◌, refl, ap, subst, ◌∙◌}
+use mathlib.Core.Path.{◌≡◌, ap, subst, ◌∙◌}
 use mathlib.Core.Bool.{true}
 use mathlib.Core.Logic.{inl, inr}
 use mathlib.Core.List.{List}
@@ -9,12 +9,12 @@ use Rattle.rack.specs.Wiring.{Link, Wiring, link, link_count, link_at, linked}
 use Rattle.rack.specs.Hops.{has_path, hops}
 use Rattle.rack.specs.WiringFile.{file_wiring}
 use Rattle.rack.proofs.Logic.{by_lt}
-use Rattle.rack.proofs.Lists.{In, getD_in}
+use Rattle.rack.proofs.Lists.{In, get_or_in}
 use Rattle.rack.proofs.Paths.{Ends, linked_link, linked_sym, path_next, path_zero}
 use Rattle.rack.proofs.Hops.{hops_path, hops_triangle, hops_linked}
 use Rattle.rack.specs.Formed.{Formed}
 use Rattle.survey.specs.Tables.{cell, HopsIn}
-use Rattle.survey.specs.Lowering.{Lowered, Above, Tight, Passed, Swept}
+use Rattle.survey.specs.Lowering.{Lowered, Above, Tight, Passed}
 use Rattle.survey.proofs.Rows.{lowered_above}
 use Rattle.survey.proofs.Forms.{formed_count, formed_few, formed_first, formed_second, formed_linked}
 
@@ -49,9 +49,6 @@ module _ (bs : List ℕ) (n m : ℕ) (f : Formed bs n m) (old mid new : List ℕ
       }
 
 -- PASSES
-pub passed_none : (w : Wiring) (h : List ℕ) (i : ℕ) → Above w h → Passed w h h i i 0
-passed_none w h i a = record { above = a; taken = omega arith; still = λ z. refl; tight = λ z j s t. absurd (omega arith) }
-
 pub passed_more : (w : Wiring) (old mid new : List ℕ) (i j k x y off : ℕ) → off ≡ max x y → Passed w old mid i j x → Passed w mid new j k y → Passed w old new i k off
 passed_more w old mid new i j k x y off e p q =
     record {
@@ -60,12 +57,6 @@ passed_more w old mid new i j k x y off e p q =
       still = λ z. q.still (omega arith) ∙ p.still (omega arith);
       tight = λ z c s t. by_lt c j (λ l. let g : new ≡ mid = q.still (omega arith) in rw g (p.tight (omega arith) c s l)) (λ l. q.tight (omega arith) c l t);
     }
-
-pub swept_none : (w : Wiring) (h : List ℕ) → Above w h → Swept w h h
-swept_none w h a = record { above = a; less = omega arith }
-
-pub swept_more : (w : Wiring) (old mid new : List ℕ) → Swept w old mid → Swept w mid new → Swept w old new
-swept_more w old mid new p q = record { above = q.above; less = omega (arith, p.less, q.less) }
 
 -- BOUNDS WITH EVERY LINK TIGHT are hops
 module _ (w : Wiring) (h : List ℕ) (few : w.cards ≤ 256) (a : Above w h) (tight : (i : ℕ) → i < link_count w → Tight w h i) where
@@ -78,7 +69,7 @@ module _ (w : Wiring) (h : List ℕ) (few : w.cards ≤ 256) (a : Above w h) (ti
     where
       link_within : (l : Link) → In l w.links → Within b l
       link_within l m =
-          let r = getD_in w.links (link 0 0) l m in
+          let r = get_or_in w.links (link 0 0) l m in
           let t = tight r.0 r.1 in
           subst (Within b) r.2 (t.first b hb, t.second b hb)
 

@@ -1,5 +1,5 @@
 -- Lowering a row of bounds by another, place by place; a lowered row still bounds hops. Assumes nothing.
-use mathlib.Core.Path.{◌≡◌, refl, ap, sym, subst, ◌∙◌}
+use mathlib.Core.Path.{◌≡◌, ap, sym, subst, ◌∙◌}
 use mathlib.Core.Logic.{◌≢◌}
 use mathlib.Core.List.{List, [], ◌∷◌}
 use Prim.Native.Nat.{ℕ, zero, suc, ◌+◌, ◌*◌, ◌-◌, ◌≤◌, ◌<◌, min, max}
@@ -19,18 +19,6 @@ unfolding sum
 sum_set [] i v h = omega arith
 sum_set (x ∷ l) zero v h = omega arith
 sum_set (x ∷ l) (suc i) v h = omega (arith, sum_set l i v (omega arith))
-
--- no place lowered yet
-pub lowered_none : (h : List ℕ) (to by : ℕ) → Lowered h h to by 0 0
-lowered_none h to by =
-    record {
-      long = refl;
-      lower = λ b l. omega arith;
-      before = λ i l. refl;
-      after = λ i l. refl;
-      taken = omega arith;
-      still = λ z. refl;
-    }
 
 -- one place more, lowered to z
 module _ (old new : List ℕ) (to by b off z off' : ℕ) (p : Lowered old new to by b off) (hb : b < 256) (long : length old ≡ lent_hops) (ht : to < 256)

@@ -1,4 +1,3 @@
-pub mod Refusing
 pub mod Tables
 pub mod Marks
 pub mod Flags

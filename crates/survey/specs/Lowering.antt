@@ -1,5 +1,5 @@
 -- Upper bounds of hops, lowered over the links until they are hops. Assumes nothing: these are definitions.
-use Rattle.std.specs.Prelude.{◌≡◌, cond, List, ℕ, ◌+◌, ◌*◌, ◌-◌, ◌≤◌, ◌<◌, min, ltb, leb, eqb, length, get_or}
+use Rattle.std.specs.Prelude.{◌≡◌, cond, List, ℕ, ◌+◌, ◌*◌, ◌-◌, ◌≤◌, ◌<◌, min, ltb, eqb, length, get_or}
 use Rattle.rack.specs.Lists.{sum}
 use Rattle.rack.specs.Limits.{lent_hops, most_cards}
 use Rattle.rack.specs.Wiring.{Wiring, link_at}
@@ -41,25 +41,12 @@ pub record Swept (w : Wiring) (old new : List ℕ) : Type 0 where
   pub above : Above w new
   pub less : sum new ≤ sum old
 
--- what is known of hops from card a to another in a connected rack before any link was looked at: fewer than n
-unfoldable pub row_bound : (n a : ℕ) → ℕ
-row_bound n a = cond (leb n a) 0 (n - 1)
-
--- a bound at the places of the n cards, and 0 elsewhere
-unfoldable pub place_bound : (n bound b : ℕ) → ℕ
-place_bound n v b = cond (ltb b n) v 0
-
--- the first `upto` places of row a hold that, and the rows before are as they were
-pub record RowFilled (n bound : ℕ) (old new : List ℕ) (a upto : ℕ) : Type 0 where
-  pub long : length new ≡ length old
-  pub before : (i : ℕ) → i < most_cards * a → get_or new i 0 ≡ get_or old i 0
-  pub is : (b : ℕ) → b < upto → cell new a b ≡ place_bound n bound b
-
--- the first bounds: none from a card to itself
+-- what is known of hops in a connected rack of n cards before any link was looked at: fewer than n, and none from a card to itself
 unfoldable pub first_bound : (n a b : ℕ) → ℕ
-first_bound n a b = cond (eqb a b) 0 (place_bound n (row_bound n a) b)
+first_bound n a b = cond (eqb a b) 0 (cond (ltb b n) (n - 1) 0)
 
--- the rows below `upto` hold them
+-- the rows of the cards below `upto` hold these bounds, and what stands behind them is 0
 pub record Started (n : ℕ) (h : List ℕ) (upto : ℕ) : Type 0 where
   pub long : length h ≡ lent_hops
   pub is : (a b : ℕ) → b < most_cards → a < upto → cell h a b ≡ first_bound n a b
+  pub rest : (i : ℕ) → most_cards * upto ≤ i → get_or h i 0 ≡ 0

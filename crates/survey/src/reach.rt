@@ -1,114 +1,92 @@
 // Refusal 9: the cards that can be reached from card 0, by flags that spread over the links.
-ghost use Rattle.std.specs.Prelude.{◌≡◌, ◌+◌, ◌<◌, ◌≤◌, length, replicate};
+ghost use Rattle.std.specs.Prelude.{◌≡◌, ◌≢◌, ℕ, ◌+◌, ◌<◌, ◌≤◌, MatchOption, replicate, slice_index};
 ghost use Rattle.rack.specs.Limits.{lent_hops, most_cards};
-ghost use Rattle.rack.specs.Wiring.{Wiring};
+ghost use Rattle.rack.specs.Refused.{RefusesWith};
 ghost use Rattle.rack.specs.WiringFile.{file_wiring};
 ghost use Rattle.rack.specs.Refusals.{reach_refusal};
-ghost use Rattle.rack.specs.Formed.{Formed};
-ghost use Rattle.survey.specs.Refusing.{RefusedIs};
 ghost use Rattle.survey.specs.Flags.{Flagged, Reached, Spread};
 
-use crate::links::Refused;
-use rack::bytes::{first_end, second_end, wide};
-use rack::limits::MOST_LINKS;
+use rack::limits::{LENT_HOPS, MOST_LINKS};
+use rack::refused::Refused;
+use rack::views::FormedFile;
 
 // Flags the other end of link `i` where just one end is flagged; gives how many flags are new.
-fn spread_link(file: &[u8], n: usize, m: usize, i: usize, flags: &mut [u8]) -> usize
-    requires { Formed file.now n m × (i < m) × Flagged (file_wiring file.now) flags.old }
-    ensures { Spread (file_wiring file.now) flags.old flags.new i (i + 1) result }
+fn spread_link(file: FormedFile<'_>, i: usize, flags: &mut [u8; LENT_HOPS]) -> usize
+    requires { (i < file.links) × Flagged (file_wiring file.bytes.now) flags.old }
+    ensures { Spread (file_wiring file.entry.bytes.now) flags.old flags.new i (i + 1) result }
 {
-    let p = first_end(file, 4, m, i);
-    let q = second_end(file, 4, m, i);
+    let p = file.first_end(i);
+    let q = file.second_end(i);
     if flags[p] == flags[q] {
         return 0;
     }
     if flags[p] == 0 {
         flags[p] = 1;
-        return 1;
+    } else {
+        flags[q] = 1;
     }
-    flags[q] = 1;
     1
 }
 
 // Spreads the flags over every link once.
-fn spread_pass(file: &[u8], n: usize, m: usize, flags: &mut [u8]) -> usize
-    requires { Formed file.now n m × Flagged (file_wiring file.now) flags.old }
-    ensures { Spread (file_wiring file.now) flags.old flags.new 0 m result }
+fn spread_pass(file: FormedFile<'_>, flags: &mut [u8; LENT_HOPS]) -> usize
+    requires { Flagged (file_wiring file.bytes.now) flags.old }
+    ensures { Spread (file_wiring file.entry.bytes.now) flags.old flags.new 0 file.entry.links result }
 {
-    let mut moved: usize = 0;
-    let mut i: usize = 0;
-    while i < m {
-        moved += spread_link(file, n, m, i, flags);
-        i += 1;
+    let mut moved = 0;
+    for i in 0..file.links {
+        moved += spread_link(file, i, flags);
     }
     moved
 }
 
-// Spreads the flags over link `i` if there is one.
-fn spread_one(file: &[u8], n: usize, m: usize, i: usize, flags: &mut [u8])
-    requires { Formed file.now n m × Flagged (file_wiring file.now) flags.old }
-    ensures { Flagged (file_wiring file.now) flags.new }
-{
-    if i < m {
-        spread_link(file, n, m, i, flags);
-    }
-}
-
 // Spreads the flags over the links in an order.
-fn spread_order(file: &[u8], n: usize, m: usize, order: &[u16; MOST_LINKS], flags: &mut [u8])
-    requires { Formed file.now n m × Flagged (file_wiring file.now) flags.old }
-    ensures { Flagged (file_wiring file.now) flags.new }
+fn spread_order(file: FormedFile<'_>, order: &[u16; MOST_LINKS], flags: &mut [u8; LENT_HOPS])
+    requires { Flagged (file_wiring file.bytes.now) flags.old }
+    ensures { Flagged (file_wiring file.entry.bytes.now) flags.new }
 {
-    let mut j: usize = 0;
-    while j < m {
-        spread_one(file, n, m, wide(order[j]), flags);
-        j += 1;
+    for link in &order[..file.links] {
+        let i = usize::from(*link);
+        if i < file.links {
+            spread_link(file, i, flags);
+        }
     }
 }
 
 // Flags every card that can be reached from card 0, in a buffer that is zero at entry. The order only saves passes.
-fn reach(file: &[u8], n: usize, m: usize, order: &[u16; MOST_LINKS], flags: &mut [u8])
-    requires { Formed file.now n m × (flags.old ≡ replicate lent_hops 0) }
-    ensures { Reached (file_wiring file.now) flags.new }
+fn reach(file: FormedFile<'_>, order: &[u16; MOST_LINKS], flags: &mut [u8; LENT_HOPS])
+    requires { flags.old ≡ replicate lent_hops 0 }
+    ensures { Reached (file_wiring file.entry.bytes.now) flags.new }
 {
     flags[0] = 1;
-    spread_order(file, n, m, order, flags);
-    let mut moved: usize = 1;
-    while 0 < moved {
-        moved = spread_pass(file, n, m, flags);
+    spread_order(file, order, flags);
+    loop {
+        if spread_pass(file, flags) == 0 {
+            return;
+        }
     }
 }
 
-// The lowest card without a flag, with 9.
-fn first_unflagged(n: usize, flags: &[u8]) -> Refused
-    requires { (n ≤ most_cards) × (length flags.now ≡ lent_hops) }
-    ensures { (w : Wiring) → w.cards ≡ n → Reached w flags.now → RefusedIs result (reach_refusal w) }
+// The lowest of `n` cards without a flag.
+fn first_unflagged(n: usize, flags: &[u8; LENT_HOPS]) -> Option<usize>
+    requires { n ≤ most_cards }
+    ensures { MatchOption result ((j : ℕ) → j < n → slice_index flags.now j ≢ 0) (λ c. (c < n) × (slice_index flags.now c ≡ 0) × ((j : ℕ) → j < c → slice_index flags.now j ≢ 0)) }
 {
-    let mut c: usize = 0;
-    while c < n {
-        if flags[c] == 0 {
-            return Refused {
-                number: 9,
-                at: c as u32,
-            };
-        }
-        c += 1;
-    }
-    Refused { number: 0, at: 0 }
+    flags[..n].iter().position(|flag| *flag == 0)
 }
 
 // The lowest card that can't be reached from card 0, with 9. The flags are zero at entry.
 pub fn reach_refusal(
-    file: &[u8],
-    n: usize,
-    m: usize,
+    file: FormedFile<'_>,
     order: &[u16; MOST_LINKS],
-    flags: &mut [u8],
-) -> Refused
-    requires { Formed file.now n m × (flags.old ≡ replicate lent_hops 0) }
-    ensures is { RefusedIs result (reach_refusal (file_wiring file.now)) }
-    ensures long { length flags.new ≡ lent_hops }
+    flags: &mut [u8; LENT_HOPS],
+) -> Result<(), Refused>
+    requires { flags.old ≡ replicate lent_hops 0 }
+    ensures { RefusesWith (reach_refusal (file_wiring file.entry.bytes.now)) result }
 {
-    reach(file, n, m, order, flags);
-    first_unflagged(n, flags)
+    reach(file, order, flags);
+    match first_unflagged(file.cards, flags) {
+        Some(c) => Err(Refused::Unreached(c as u32)),
+        None => Ok(()),
+    }
 }

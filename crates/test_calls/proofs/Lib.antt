@@ -1,2 +1,2 @@
-pub mod Lent
+pub mod Parts
 pub mod Seen

@@ -1,20 +1,16 @@
 -- Answers as the tests read them: the refusal's number, and the other fields in lent numbers. Assumes nothing: these are definitions.
 use Rattle.std.specs.Prelude.{◌≡◌, cond, ◌⊎◌, ◌≢◌, List, [], ℕ, suc, eqb, length, get_or, replicate}
-use Rattle.planner.specs.declared.Answer.{Answer}
+use Rattle.planner.specs.Answer.{Answer}
 use Rattle.reader.specs.Plan.{plan_refusal}
-use Rattle.reader.specs.declared.layout.Sizes.{Sizes}
+use Rattle.reader.specs.Reading.{Sizes}
 use Rattle.forwarder.specs.Calls.{step_refusal}
 use Rattle.forwarder.specs.declared.walk.Tally.{Tally}
-use Rattle.crossing.specs.Crossing.{PlacesAre}
-use Rattle.crossing.specs.declared.FrameStep.{FrameStep}
-use Rattle.crossing.specs.declared.FrameWalk.{FrameWalk}
-use Rattle.crossing.specs.declared.places.FirstColumn.{FirstColumn}
-use Rattle.crossing.specs.declared.places.Places.{Places}
-use Rattle.conference.specs.declared.Conference.{Conference}
-use Rattle.plan_totals.specs.declared.Summed.{Summed}
-use Rattle.last_card.specs.declared.SummedPlan.{SummedPlan}
+use Rattle.crossing.specs.Crossing.{FirstColumn, Places, PlacesAre, FrameStep, FrameWalk}
+use Rattle.conference.specs.Conference.{Conference}
+use Rattle.plan_totals.specs.Summed.{Summed}
+use Rattle.last_card.specs.Calls.{SummedPlan}
 use Rattle.traffic.specs.declared.Traffic.{Traffic}
-use Rattle.callers.specs.declared.CallerWalk.{CallerWalk}
+use Rattle.callers.specs.Walking.{CallerWalk}
 
 -- a struct of the number and of lent numbers, in the order of its fields
 abbrev pub answer_in : (number : ℕ) → List ℕ → Answer

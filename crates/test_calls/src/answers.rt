@@ -1,72 +1,115 @@
 // Answers taken apart for the tests: the number is returned, the other fields go into lent numbers, in their order.
 ghost use Rattle.std.specs.Prelude.{◌≡◌, length, replicate};
+ghost use Rattle.rack.specs.Refused.{number_of, refusal_of};
+ghost use Rattle.planner.specs.Answer.{answer_of};
+ghost use Rattle.reader.specs.Reading.{sizes_of};
+ghost use Rattle.crossing.specs.Crossing.{frame_step_of, frame_walk_of, places_of};
+ghost use Rattle.conference.specs.Conference.{conference_of};
+ghost use Rattle.plan_totals.specs.Summed.{summed_of};
+ghost use Rattle.last_card.specs.Calls.{summed_plan_of};
+ghost use Rattle.turns.specs.Turns.{part_of};
+ghost use Rattle.callers.specs.Walking.{caller_walk_of};
 ghost use Rattle.test_calls.specs.Answers.{answer_in, caller_walk_in, conference_in, frame_step_in, frame_walk_in, lent_traffic, places_in, sizes_in, summed_in, summed_plan_in};
 
 use callers::CallerWalk;
-use conference::Conference;
 use crossing::places::Places;
 use crossing::{FrameStep, FrameWalk};
+use forwarder::step::Step;
+use forwarder::walk::Tally;
 use last_card::SummedPlan;
 use plan_totals::Summed;
-use planner::Answer;
 use rack::limits::MOST_CALLERS;
-use reader::layout::Sizes;
+use rack::refused::Refused;
+use rack::views::Plan;
 use traffic::Traffic;
 
-// Puts an answer's fields into just as many numbers.
-fn put_fields(fields: &[u32], answer: &mut [u32])
-    requires { length answer.old ≡ length fields.now }
-    ensures { answer.new ≡ fields.now }
+// Zeros in place of the fields of what is refused; gives the refusal's number.
+pub fn put_refused(refused: Refused, answer: &mut [u32]) -> u32
+    ensures number { result ≡ (refusal_of refused).number }
+    ensures zeros { answer.new ≡ replicate (length answer.old) 0 }
 {
-    let mut i: usize = 0;
-    while i < fields.len() {
-        answer[i] = fields[i];
-        i += 1;
-    }
+    answer.fill(0);
+    refused.number()
 }
 
 // The link or card, and the value.
-pub fn put_answer(a: Answer, answer: &mut [u32]) -> u32
+pub fn put_answer(a: Result<u32, Refused>, answer: &mut [u32]) -> u32
     requires { length answer.old ≡ 2 }
-    ensures { answer_in result answer.new ≡ a }
+    ensures { answer_in result answer.new ≡ answer_of a }
 {
-    put_fields(&[a.at, a.value], answer);
-    a.number
+    match a {
+        Ok(value) => {
+            answer.copy_from_slice(&[0, value]);
+            0
+        }
+        Err(refused) => {
+            answer.copy_from_slice(&[refused.place(), 0]);
+            refused.number()
+        }
+    }
 }
 
 // The three sizes.
-pub fn put_sizes(s: Sizes, answer: &mut [u32]) -> u32
+pub fn put_sizes(s: Result<Plan<'_>, Refused>, answer: &mut [u32]) -> u32
     requires { length answer.old ≡ 3 }
-    ensures { sizes_in result answer.new ≡ s }
+    ensures { sizes_in result answer.new ≡ sizes_of s.entry }
 {
-    put_fields(&[s.cards, s.links, s.columns], answer);
-    s.number
+    match s {
+        Ok(p) => {
+            answer.copy_from_slice(&[p.cards as u32, p.links as u32, p.columns as u32]);
+            0
+        }
+        Err(refused) => put_refused(refused, answer),
+    }
 }
 
 // The outcome, the link and the far card; 1 for a column or 0 for none, and the column.
-pub fn put_step(s: FrameStep, answer: &mut [u32]) -> u32
+pub fn put_step(s: Result<FrameStep, Refused>, answer: &mut [u32]) -> u32
     requires { length answer.old ≡ 5 }
-    ensures { frame_step_in result answer.new ≡ s }
+    ensures { frame_step_in result answer.new ≡ frame_step_of s }
 {
-    let t = s.stepped;
-    let c = s.crossed;
-    put_fields(&[t.outcome, t.link, t.far, c.found, c.column], answer);
-    t.number
+    match s {
+        Ok(FrameStep { step, crossed }) => {
+            let (outcome, link, far) = match step {
+                Step::Stuck => (0, 0, 0),
+                Step::Arrived => (1, 0, 0),
+                Step::Over { link, far } => (2, link, far),
+            };
+            answer.copy_from_slice(&[
+                outcome,
+                link,
+                far,
+                u32::from(crossed.is_some()),
+                crossed.unwrap_or(0),
+            ]);
+            0
+        }
+        Err(refused) => put_refused(refused, answer),
+    }
 }
 
-// How it ended, its hops, and the counts; 1 for a column or 0 for none, and the column.
-pub fn put_walk(f: FrameWalk, answer: &mut [u32]) -> u32
+// How it ended, its hops, and the counts; 1 for a column or 0 for none, and the column. With a refusal the counts are as they went in.
+pub fn put_walk(f: Result<FrameWalk, Refused>, tally: Tally, answer: &mut [u32]) -> u32
     requires { length answer.old ≡ 6 }
-    ensures { frame_walk_in result answer.new ≡ f }
+    ensures { frame_walk_in result answer.new ≡ frame_walk_of tally f }
 {
-    let w = f.walked;
-    let t = w.tally;
-    let c = f.crossed;
-    put_fields(
-        &[w.arrived, w.hops, t.frames, t.hops, c.found, c.column],
-        answer,
-    );
-    w.number
+    match f {
+        Ok(FrameWalk { walked, crossed }) => {
+            answer.copy_from_slice(&[
+                u32::from(walked.arrived),
+                walked.hops,
+                walked.tally.frames,
+                walked.tally.hops,
+                u32::from(crossed.is_some()),
+                crossed.unwrap_or(0),
+            ]);
+            0
+        }
+        Err(refused) => {
+            answer.copy_from_slice(&[0, 0, tally.frames, tally.hops, 0, 0]);
+            refused.number()
+        }
+    }
 }
 
 // The record of three lent arrays: the frames, hops and turns of each caller.
@@ -77,79 +120,105 @@ pub fn lent_traffic(
 ) -> Traffic
     ensures { result ≡ lent_traffic frames.now hops.now turns.now }
 {
-    let f = *frames;
-    let h = *hops;
-    let t = *turns;
     Traffic {
-        frames: f,
-        hops: h,
-        turns: t,
+        frames: *frames,
+        hops: *hops,
+        turns: *turns,
     }
 }
 
-// How it ended, its hops, 1 for a column or 0 for none, and the column; the counts go into the three arrays.
+// How it ended, its hops, 1 for a column or 0 for none, and the column; the counts go into the three arrays, where a refusal leaves them.
 pub fn put_caller_walk(
-    w: CallerWalk,
+    w: Result<CallerWalk, Refused>,
     frames: &mut [u32; MOST_CALLERS],
     hops: &mut [u32; MOST_CALLERS],
     turns: &mut [u32; MOST_CALLERS],
     answer: &mut [u32],
 ) -> u32
     requires { length answer.old ≡ 4 }
-    ensures { caller_walk_in result answer.new (lent_traffic frames.new hops.new turns.new) ≡ w }
+    ensures { caller_walk_in result answer.new (lent_traffic frames.new hops.new turns.new) ≡ caller_walk_of (lent_traffic frames.old hops.old turns.old) w }
 {
-    let traffic = w.traffic;
-    let f = traffic.frames;
-    let h = traffic.hops;
-    let t = traffic.turns;
-    *frames = f;
-    *hops = h;
-    *turns = t;
-    let c = w.crossed;
-    put_fields(&[w.arrived, w.hops, c.found, c.column], answer);
-    w.number
+    match w {
+        Ok(w) => {
+            *frames = w.traffic.frames;
+            *hops = w.traffic.hops;
+            *turns = w.traffic.turns;
+            answer.copy_from_slice(&[
+                u32::from(w.arrived),
+                w.hops,
+                u32::from(w.crossed.is_some()),
+                w.crossed.unwrap_or(0),
+            ]);
+            0
+        }
+        Err(refused) => put_refused(refused, answer),
+    }
 }
 
 // How many places differ; 1 for a column or 0 for none, and the column.
 pub fn put_places(p: Places, answer: &mut [u32])
     requires { length answer.old ≡ 3 }
-    ensures { places_in answer.new ≡ p }
+    ensures { places_in answer.new ≡ places_of p }
 {
-    let c = p.first;
-    put_fields(&[p.count, c.found, c.column], answer);
-}
-
-// Zeros in place of these three.
-pub fn put_no_places(answer: &mut [u32])
-    requires { length answer.old ≡ 3 }
-    ensures { answer.new ≡ replicate 3 0 }
-{
-    put_fields(&[0, 0, 0], answer);
+    answer.copy_from_slice(&[p.count, u32::from(p.first.is_some()), p.first.unwrap_or(0)]);
 }
 
 // 1 for a card or 0 for none, and the card.
-pub fn put_conference(r: Conference, answer: &mut [u32]) -> u32
+pub fn put_conference(r: Result<Option<u32>, Refused>, answer: &mut [u32]) -> u32
     requires { length answer.old ≡ 2 }
-    ensures { conference_in result answer.new ≡ r }
+    ensures { conference_in result answer.new ≡ conference_of r }
 {
-    put_fields(&[r.found, r.card], answer);
-    r.number
+    match r {
+        Ok(card) => {
+            answer.copy_from_slice(&[u32::from(card.is_some()), card.unwrap_or(0)]);
+            0
+        }
+        Err(refused) => put_refused(refused, answer),
+    }
 }
 
 // The three sizes and the sum.
-pub fn put_summed(s: Summed, answer: &mut [u32]) -> u32
+pub fn put_summed(s: Result<Summed<'_>, Refused>, answer: &mut [u32]) -> u32
     requires { length answer.old ≡ 4 }
-    ensures { summed_in result answer.new ≡ s }
+    ensures { summed_in result answer.new ≡ summed_of s.entry }
 {
-    put_fields(&[s.cards, s.links, s.columns, s.total], answer);
-    s.number
+    match s {
+        Ok(s) => {
+            let p = s.plan;
+            answer.copy_from_slice(&[p.cards as u32, p.links as u32, p.columns as u32, s.total]);
+            0
+        }
+        Err(refused) => put_refused(refused, answer),
+    }
 }
 
 // The new plan's length and its sum.
-pub fn put_summed_plan(p: SummedPlan, answer: &mut [u32]) -> u32
+pub fn put_summed_plan(p: Result<SummedPlan, Refused>, answer: &mut [u32]) -> u32
     requires { length answer.old ≡ 2 }
-    ensures { summed_plan_in result answer.new ≡ p }
+    ensures { summed_plan_in result answer.new ≡ summed_plan_of p }
 {
-    put_fields(&[p.length, p.total], answer);
-    p.number
+    match p {
+        Ok(p) => {
+            answer.copy_from_slice(&[p.length, p.total]);
+            0
+        }
+        Err(refused) => put_refused(refused, answer),
+    }
+}
+
+// A part of lent bytes, or with a refusal none of them, from the first on; gives the refusal's number.
+pub fn put_part<'a>(r: Result<&'a [u8], Refused>, bytes: &'a [u8], part: &mut &'a [u8]) -> u32
+    ensures number { result ≡ number_of r.entry }
+    ensures part { part.new ≡ part_of bytes.entry.ref_ptr r.entry }
+{
+    match r {
+        Ok(found) => {
+            *part = found;
+            0
+        }
+        Err(refused) => {
+            *part = &bytes[..0];
+            refused.number()
+        }
+    }
 }

@@ -4,7 +4,7 @@ ghost use Rattle.turns.specs.Turns.{ChoiceSays};
 ghost use Rattle.callers.specs.Walking.{CallerWalkSays, LentWalkSays};
 ghost use Rattle.test_calls.specs.Answers.{Answered, caller_walk_in, lent_traffic};
 
-use crate::answers::{lent_traffic, put_caller_walk};
+use crate::answers::{lent_traffic, put_caller_walk, put_part};
 use callers::{walk_by_caller, walk_lent};
 use rack::limits::MOST_CALLERS;
 use turns::next_frame;
@@ -71,7 +71,5 @@ pub fn test_next_frame<'a>(
 ) -> u32
     ensures { ChoiceSays first.entry second.entry turns.old part.new turns.new result }
 {
-    let mut number: u32 = 0;
-    *part = next_frame(first, second, turns, &mut number);
-    number
+    put_part(next_frame(first, second, turns), first, part)
 }

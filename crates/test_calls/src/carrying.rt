@@ -8,12 +8,9 @@ ghost use Rattle.carried.specs.Carried.{AddressSaysWith, ConferenceSaysWith, add
 ghost use Rattle.test_calls.specs.Answers.{Answered, caller_walk_in, conference_in, frame_step_in, lent_traffic, sizes_in, summed_plan_in};
 
 use crate::answers::{
-    lent_traffic, put_caller_walk, put_conference, put_sizes, put_step, put_summed_plan,
+    lent_traffic, put_caller_walk, put_conference, put_part, put_sizes, put_step, put_summed_plan,
 };
-use carried::{
-    add_carried, address_carried, address_refusal_carried, conference_carried, read_carried,
-    step_carried, take_off_carried, walk_carried,
-};
+use carried::Opened;
 use rack::limits::MOST_CALLERS;
 
 // Reading: 1, 12, 13. The fields are the three sizes.
@@ -30,7 +27,14 @@ pub fn test_read_carried(
     if answer.len() != 3 {
         return 1;
     }
-    put_sizes(read_carried(bytes, cards, links, columns, total), answer)
+    let opened = Opened {
+        bytes,
+        cards,
+        links,
+        columns,
+        total,
+    };
+    put_sizes(opened.read(), answer)
 }
 
 // A card's address.
@@ -45,7 +49,14 @@ pub fn test_address_carried<'a>(
 )
     ensures { AddressSaysWith (carried_bytes bytes.now cards links columns) total bytes.entry.ref_ptr card part.new }
 {
-    *part = address_carried(bytes, cards, links, columns, total, card);
+    let opened = Opened {
+        bytes,
+        cards,
+        links,
+        columns,
+        total,
+    };
+    put_part(opened.address(card), bytes, part);
 }
 
 // The number beside it: 12, 13, 14.
@@ -59,7 +70,17 @@ pub fn test_address_refusal_carried(
 ) -> u32
     ensures { result ≡ address_refusal_with (carried_bytes bytes.now cards links columns) total card }
 {
-    address_refusal_carried(bytes, cards, links, columns, total, card)
+    let opened = Opened {
+        bytes,
+        cards,
+        links,
+        columns,
+        total,
+    };
+    match opened.address(card) {
+        Ok(_) => 0,
+        Err(refused) => refused.number(),
+    }
 }
 
 // A step: 1, 12, 14.
@@ -77,10 +98,14 @@ pub fn test_step_carried(
     if answer.len() != 5 {
         return 1;
     }
-    put_step(
-        step_carried(bytes, cards, links, columns, from, goal),
-        answer,
-    )
+    let opened = Opened {
+        bytes,
+        cards,
+        links,
+        columns,
+        total: 0,
+    };
+    put_step(opened.step(from, goal), answer)
 }
 
 // A walk by caller: 1, 12, 18, 14, 15.
@@ -103,11 +128,16 @@ pub fn test_walk_carried(
     if answer.len() != 4 {
         return 1;
     }
+    let opened = Opened {
+        bytes,
+        cards,
+        links,
+        columns,
+        total: 0,
+    };
     let traffic = lent_traffic(frames, hops, turns);
     put_caller_walk(
-        walk_carried(
-            bytes, cards, links, columns, from, goal, caller, traffic, met,
-        ),
+        opened.walk(from, goal, caller, traffic, met),
         frames,
         hops,
         turns,
@@ -132,10 +162,14 @@ pub fn test_conference_carried(
     if answer.len() != 2 {
         return 1;
     }
-    put_conference(
-        conference_carried(bytes, cards, links, columns, total, a, b, c),
-        answer,
-    )
+    let opened = Opened {
+        bytes,
+        cards,
+        links,
+        columns,
+        total,
+    };
+    put_conference(opened.conference(a, b, c), answer)
 }
 
 // A card more: 1, 12, 13, 14, 16. The fields are the new plan's length and its sum.
@@ -154,10 +188,14 @@ pub fn test_add_carried(
     if answer.len() != 2 {
         return 1;
     }
-    put_summed_plan(
-        add_carried(bytes, cards, links, columns, total, card, output),
-        answer,
-    )
+    let opened = Opened {
+        bytes,
+        cards,
+        links,
+        columns,
+        total,
+    };
+    put_summed_plan(opened.add_card(card, output), answer)
 }
 
 // The last card taken off: 1, 12, 13, 17. The fields are the new plan's length and its sum.
@@ -175,8 +213,12 @@ pub fn test_take_off_carried(
     if answer.len() != 2 {
         return 1;
     }
-    put_summed_plan(
-        take_off_carried(bytes, cards, links, columns, total, output),
-        answer,
-    )
+    let opened = Opened {
+        bytes,
+        cards,
+        links,
+        columns,
+        total,
+    };
+    put_summed_plan(opened.take_card_off(output), answer)
 }

@@ -14,14 +14,14 @@ ghost use Rattle.listing_text.specs.Listing.{ListingSays};
 ghost use Rattle.test_calls.specs.Answers.{Answered, PlacesSay, answer_in, conference_in, counts, frame_step_in, frame_walk_in, summed_in, summed_plan_in};
 
 use answers::{
-    put_answer, put_conference, put_no_places, put_places, put_step, put_summed, put_summed_plan,
-    put_walk,
+    put_answer, put_conference, put_part, put_places, put_refused, put_step, put_summed,
+    put_summed_plan, put_walk,
 };
 use conference::conference_card;
 use counting::ones::ones_table;
 use crossing::places::plan_places;
 use crossing::{step_frame, walk_frame};
-use forwarder::step::frame_sizes;
+use forwarder::step::frame_plan;
 use forwarder::walk::Tally;
 use last_card::{add_card, take_card_off};
 use listing_text::listing_text;
@@ -59,9 +59,7 @@ pub fn test_card_address<'a>(plan: &'a [u8], card: u32, part: &mut &'a [u8]) -> 
     ensures number { result ≡ address_refusal plan.now card }
     ensures part { AddressSays plan.now plan.entry.ref_ptr card part.new }
 {
-    let mut number: u32 = 0;
-    *part = card_address(plan, card, &mut number);
-    number
+    put_part(card_address(plan, card), plan, part)
 }
 
 // The differing places of two cards of a plan, whose sizes and table are made here: 1, 12, 14. The fields are their number, 1 for a column
@@ -72,17 +70,14 @@ pub fn test_plan_places(plan: &[u8], a: u32, b: u32, answer: &mut [u32]) -> u32
     if answer.len() != 3 {
         return 1;
     }
-    let sizes = frame_sizes(plan, a, b);
-    if sizes.number != 0 {
-        put_no_places(answer);
-        return sizes.number;
+    match frame_plan(plan, a, b) {
+        Ok(sized) => {
+            let ones = ones_table();
+            put_places(plan_places(&ones, sized, a as usize, b as usize), answer);
+            0
+        }
+        Err(refused) => put_refused(refused, answer),
     }
-    let ones = ones_table();
-    put_places(
-        plan_places(&ones, plan, sizes, a as usize, b as usize),
-        answer,
-    );
-    0
 }
 
 // A step: 1, 12, 14. The fields are its outcome, the link and the far card, 1 for a column or 0 for none, and the column.
@@ -111,11 +106,8 @@ pub fn test_walk_frame(
     if answer.len() != 6 {
         return 1;
     }
-    let tally = Tally {
-        frames: frames,
-        hops: hops,
-    };
-    put_walk(walk_frame(plan, from, goal, tally, met), answer)
+    let tally = Tally { frames, hops };
+    put_walk(walk_frame(plan, from, goal, tally, met), tally, answer)
 }
 
 // A conference card: 1, 12, 13, 14. The fields are 1 for a card or 0 for none, and the card.

@@ -2,34 +2,24 @@
 ghost use Rattle.std.specs.Prelude.{◌≡◌};
 ghost use Rattle.crossing.specs.Crossing.{FrameStepSays};
 ghost use Rattle.callers.specs.Walking.{CallerWalkSays};
+ghost use Rattle.carried.specs.Carried.{seen};
 ghost use Rattle.test_calls.specs.Answers.{Answered, caller_walk_in, frame_step_in, lent_traffic, opened_for};
 
 use crate::answers::{lent_traffic, put_caller_walk, put_step};
-use callers::CallerWalk;
-use crossing::FrameStep;
-use opened::open_plan;
+use opened::{Opened, open_plan};
 use rack::limits::MOST_CALLERS;
-use traffic::Traffic;
 
-// Opens a plan and steps on it.
-fn open_and_step(bytes: &[u8], from: u32, goal: u32) -> FrameStep
-    ensures { FrameStepSays (opened_for bytes.now) from goal result }
+// A plan that is opened, or none of its bytes where reading refuses it.
+fn opened(bytes: &[u8]) -> Opened<'_>
+    ensures { seen result ≡ opened_for bytes.now }
 {
-    open_plan(bytes).step(from, goal)
-}
-
-// Opens a plan and walks on it.
-fn open_and_walk(
-    bytes: &[u8],
-    from: u32,
-    goal: u32,
-    caller: u32,
-    traffic: Traffic,
-    met: &mut [u16],
-) -> CallerWalk
-    ensures { CallerWalkSays (opened_for bytes.now) from goal caller traffic result met.old met.new }
-{
-    open_plan(bytes).walk(from, goal, caller, traffic, met)
+    open_plan(bytes).unwrap_or(Opened {
+        bytes: &bytes[..0],
+        cards: 0,
+        links: 0,
+        columns: 0,
+        total: 0,
+    })
 }
 
 // A step on an opened plan: 1, 12, 14.
@@ -39,7 +29,7 @@ pub fn test_opened_step(bytes: &[u8], from: u32, goal: u32, answer: &mut [u32]) 
     if answer.len() != 5 {
         return 1;
     }
-    put_step(open_and_step(bytes, from, goal), answer)
+    put_step(opened(bytes).step(from, goal), answer)
 }
 
 // A walk by caller on an opened plan: 1, 12, 18, 14, 15.
@@ -61,7 +51,7 @@ pub fn test_opened_walk(
     }
     let traffic = lent_traffic(frames, hops, turns);
     put_caller_walk(
-        open_and_walk(bytes, from, goal, caller, traffic, met),
+        opened(bytes).walk(from, goal, caller, traffic, met),
         frames,
         hops,
         turns,

@@ -12,12 +12,11 @@ use Rattle.rack.specs.Lists.{all, tabulate, blocks}
 use Rattle.rack.specs.Bits.{number_bit, bits_value}
 use Rattle.rack.specs.Wiring.{Wiring}
 use Rattle.rack.specs.Columns.{column_count, address}
-use Rattle.rack.specs.PlanFile.{plan_cards, plan_links, plan_columns, plan_wiring, bit_from, plan_bit, address_size, address_start, addresses_start}
-use Rattle.rack.proofs.Tables.{length_tabulate, get_d_tabulate, part_then, blocks_part}
+use Rattle.rack.specs.PlanFile.{Sized, plan_cards, plan_links, plan_columns, plan_wiring, bit_from, plan_bit, address_size, address_start, addresses_start}
+use Rattle.rack.proofs.Tables.{length_tabulate, get_or_tabulate, part_then, blocks_part}
 use Rattle.rack.proofs.Bits.{number_value, bits_value_ext}
 use Rattle.rack.proofs.WiringFile.{wiring_at_cards, wiring_at_count, byte_below, number_part, ends_part}
 use Rattle.planner.specs.PlanBytes.{address_bytes, plan_bytes}
-use Rattle.plan_tests.specs.Sizes.{Sized}
 
 -- a table of numbers each of which stands at its place in a part
 tabulate_part : (xs : List ℕ) (b q : ℕ) (f : ℕ → ℕ) → q + b ≤ length xs → ((t : ℕ) → t < b → f t ≡ get_or xs (q + t) 0) → tabulate b f ≡ take b (drop q xs)
@@ -26,7 +25,7 @@ tabulate_part xs b q f h each =
     (λ t l. at t (omega (arith, length_tabulate b f)))
   where
     at : (t : ℕ) → t < b → get_or (tabulate b f) t 0 ≡ get_or (take b (drop q xs)) t 0
-    at t l = get_d_tabulate b f t 0 l ∙ each t l ∙ sym (get_or-take b (drop q xs) t 0 l ∙ get_or-drop q xs t 0)
+    at t l = get_or_tabulate b f t 0 l ∙ each t l ∙ sym (get_or-take b (drop q xs) t 0 l ∙ get_or-drop q xs t 0)
 
 module _ (ps : List ℕ) (bytes : all (λ b. ltb b 256) ps ≡ true) (z : Sized ps (plan_cards ps) (plan_links ps) (plan_columns ps)) where
   abbrev w : Wiring

@@ -15,7 +15,7 @@ use Rattle.rack.specs.Wiring.{Link, Wiring}
 use Rattle.rack.specs.Columns.{column, columns, hamming, Embedding}
 use Rattle.rack.proofs.Logic.{not_true_false, by_bool, by_eq, by_lt, and_left, and_right, differ_cancel}
 use Rattle.rack.proofs.Lists.{In, any_in, in_any}
-use Rattle.rack.proofs.Tables.{length_tabulate, get_d_tabulate, in_tabulate, tabulate_in, tabulate_snoc}
+use Rattle.rack.proofs.Tables.{length_tabulate, get_or_tabulate, in_tabulate, tabulate_in, tabulate_snoc}
 use Rattle.rack.proofs.Paths.{link_joins}
 use Rattle.rack.proofs.Crossing.{Rack, Crossing, crossing_only, link_inside, hops_one, link_crossing, column_crossing}
 use Rattle.rack.proofs.Uniqueness.{relative}
@@ -85,7 +85,7 @@ module _ (w : Wiring) (rack : Rack w) (k : ℕ) (r : ℕ → ℕ → Bool) (m : 
     separates_row : (j : ℕ) → separates l (relative w.cards r j) ≡ differ (r l.first j) (r l.second j)
     separates_row j =
         let s = link_inside w rack l i in
-        ap₂ differ (get_d_tabulate w.cards _ l.first false s.0) (get_d_tabulate w.cards _ l.second false s.1)
+        ap₂ differ (get_or_tabulate w.cards _ l.first false s.0) (get_or_tabulate w.cards _ l.second false s.1)
         ∙ differ_cancel (r l.first j) (r l.second j) (r 0 j)
 
     separates_only : (j : ℕ) → j < k → separates l (relative w.cards r j) ≡ true → crossed k r l ≡ j
@@ -132,7 +132,7 @@ module _ (w : Wiring) (rack : Rack w) (k : ℕ) (r : ℕ → ℕ → Bool) (m : 
             let e : relative w.cards r (crossed k r l) ≡ relative w.cards r o =
             sym (get_or_at (row_columns o) (relative w.cards r (crossed k r l)) [] [] o (length_tabulate o _))
             ∙ sym (opens_keep w ls cs o (omega (arith, length-append (row_columns o) (relative w.cards r (crossed k r l) ∷ []), length_tabulate o (relative w.cards r))))
-            ∙ ap (λ (c : List (List Bool)). get_or c o []) (ap (open_columns w ls) (sym (opens_own o g)) ∙ h) ∙ get_d_tabulate k (relative w.cards r) o [] inside in
+            ∙ ap (λ (c : List (List Bool)). get_or c o []) (ap (open_columns w ls) (sym (opens_own o g)) ∙ h) ∙ get_or_tabulate k (relative w.cards r) o [] inside in
             omega (arith, separates_only o inside (ap (separates l) (sym e) ∙ crosses))
 
   -- LINK BY LINK

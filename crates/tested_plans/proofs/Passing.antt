@@ -10,9 +10,9 @@ use Rattle.rack.specs.Lists.{differ, all}
 use Rattle.rack.specs.Wiring.{Wiring}
 use Rattle.rack.specs.Columns.{columns, column_count, address, Embedding}
 use Rattle.rack.specs.Refusals.{links_refusal, rack_refusal, wiring_refusal}
-use Rattle.rack.specs.PlanFile.{plan_cards, plan_links, plan_columns, plan_wiring, plan_bit, address_size}
+use Rattle.rack.specs.PlanFile.{Sized, plan_cards, plan_links, plan_columns, plan_wiring, plan_bit, address_size}
 use Rattle.rack.proofs.Logic.{by_lt, differ_sym}
-use Rattle.rack.proofs.Tables.{length_tabulate, get_d_tabulate}
+use Rattle.rack.proofs.Tables.{length_tabulate, get_or_tabulate}
 use Rattle.rack.proofs.Columns.{past_columns}
 use Rattle.rack.proofs.Crossing.{Rack}
 use Rattle.rack.proofs.Uniqueness.{relative}
@@ -20,7 +20,6 @@ use Rattle.rack.proofs.Refusals.{or_else_second, links_clear}
 use Rattle.rack.proofs.Acceptance.{embedding_accepted}
 use Rattle.rack.proofs.WiringFile.{wiring_at_cards}
 use Rattle.planner.specs.PlanBytes.{plan_bytes}
-use Rattle.plan_tests.specs.Sizes.{Sized}
 use Rattle.tested_plans.proofs.Embedded.{led_embedding, led_rack}
 use Rattle.tested_plans.proofs.ColumnOrder.{order_ones, row_columns, order_columns}
 use Rattle.tested_plans.proofs.Bytes.{same_plan}
@@ -62,7 +61,7 @@ module _ (ps : List ℕ) (bytes : all (λ b. ltb b 256) ps ≡ true) (z : Sized 
   bits_inside : (c j : ℕ) → c < w.cards → j < k → r c j ≡ address w c j
   unfolding address
   bits_inside c j hc hj =
-      sym (rw (same_columns, get_d_tabulate k (relative w.cards r) j [] hj, get_d_tabulate w.cards (λ c. differ (r c j) (r 0 j)) c false hc, d.zero j hj)
+      sym (rw (same_columns, get_or_tabulate k (relative w.cards r) j [] hj, get_or_tabulate w.cards (λ c. differ (r c j) (r 0 j)) c false hc, d.zero j hj)
       (differ_sym (r c j) false))
 
   same_bits : (c j : ℕ) → c < w.cards → j < 8 * address_size k → r c j ≡ address w c j

@@ -11,10 +11,10 @@ use Rattle.rack.specs.Wiring.{Link, Wiring, link_count, linked, touches}
 use Rattle.rack.specs.Hops.{hops}
 use Rattle.rack.specs.Columns.{side, column, columns, column_count, address, Embedding}
 use Rattle.rack.specs.Refusals.{links_refusal, rack_refusal, wiring_refusal}
-use Rattle.rack.specs.PlanFile.{plan_cards, plan_links, plan_columns, plan_wiring, plan_bit, address_size}
+use Rattle.rack.specs.PlanFile.{Sized, plan_cards, plan_links, plan_columns, plan_wiring, plan_bit, address_size}
 use Rattle.rack.proofs.Logic.{by_bool, and_both, differ_sym}
-use Rattle.rack.proofs.Lists.{In, in_any, in_getD}
-use Rattle.rack.proofs.Tables.{tabulate_ext, tabulate_getD}
+use Rattle.rack.proofs.Lists.{In, in_any, in_get_or}
+use Rattle.rack.proofs.Tables.{tabulate_ext, tabulate_get_or}
 use Rattle.rack.proofs.Paths.{Ends, ends_touch, linked_link}
 use Rattle.rack.proofs.Hops.{hops_zero, hops_sym, hops_down, connected_all}
 use Rattle.rack.proofs.Hamming.{hamming_ext}
@@ -27,7 +27,6 @@ use Rattle.rack.proofs.WiringFile.{wiring_at_cards, wiring_at_count}
 use Rattle.rack.proofs.PlanFile.{address_size_is}
 use Rattle.planner.specs.PlanBytes.{plan_bytes}
 use Rattle.planner.proofs.PlanBytes.{written_columns, written_byte_bit}
-use Rattle.plan_tests.specs.Sizes.{Sized}
 use Rattle.plan_tests.specs.Tests.{crossed, leads}
 use Rattle.tested_plans.proofs.Crossed.{ends_crossed}
 use Rattle.tested_plans.proofs.ColumnOrder.{row_columns, columns_order}
@@ -110,7 +109,7 @@ module _ (ps : List ℕ) (z : Sized ps (plan_cards ps) (plan_links ps) (plan_col
   -- the planner's columns are those of the rows
   column_row : (j : ℕ) → j < k → relative w.cards r j ≡ get_or (columns w) j []
   unfolding column column_count address
-  column_row j hj = go (column_link w (get_or (columns w) j []) (in_getD (columns w) j [] (omega (arith, same_count))))
+  column_row j hj = go (column_link w (get_or (columns w) j []) (in_get_or (columns w) j [] (omega (arith, same_count))))
     where
       go : (l : Link) × In l w.links × (column w l ≡ get_or (columns w) j []) → relative w.cards r j ≡ get_or (columns w) j []
       go (l, i, e) = tabulate_ext w.cards (λ c. differ (r c j) (r 0 j)) (side w l) bit ∙ e
@@ -123,7 +122,7 @@ module _ (ps : List ℕ) (z : Sized ps (plan_cards ps) (plan_links ps) (plan_col
   same_columns : columns w ≡ row_columns w known.rack k r rows_embed k
   unfolding column_count
   same_columns =
-      sym (tabulate_getD (columns w) [])
+      sym (tabulate_get_or (columns w) [])
       ∙ sym (ap (λ (n : ℕ). tabulate n (λ j. get_or (columns w) j [])) same_count)
       ∙ sym (tabulate_ext k (relative w.cards r) (λ j. get_or (columns w) j []) column_row)
 

@@ -7,11 +7,10 @@ use lib.Dec.{ltb, eqb}
 use borrow.Author.Tests.{eqb-true, eq-eqb}
 use Rattle.rack.specs.Lists.{all, same}
 use Rattle.rack.specs.Refusals.{wiring_refusal}
-use Rattle.rack.specs.PlanFile.{plan_cards, plan_links, plan_columns, plan_wiring}
+use Rattle.rack.specs.PlanFile.{Sized, plan_cards, plan_links, plan_columns, plan_wiring}
 use Rattle.rack.proofs.Logic.{and_left, and_right, and_both, equal_if_both}
 use Rattle.rack.proofs.Lists.{same_eq, same_self}
 use Rattle.planner.specs.PlanBytes.{plan_bytes}
-use Rattle.plan_tests.specs.Sizes.{Sized}
 use Rattle.plan_tests.specs.Tests.{tests_hold}
 use Rattle.tested_plans.specs.Promises.{TestsExactly}
 use Rattle.tested_plans.proofs.Tests.{tests_facts, facts_tests}

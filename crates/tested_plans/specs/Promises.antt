@@ -2,9 +2,8 @@
 use Rattle.std.specs.Prelude.{◌≡◌, true, ◌&&◌, List, ℕ, ltb, eqb}
 use Rattle.rack.specs.Lists.{all, same}
 use Rattle.rack.specs.Refusals.{wiring_refusal}
-use Rattle.rack.specs.PlanFile.{plan_wiring}
+use Rattle.rack.specs.PlanFile.{Sized, plan_wiring}
 use Rattle.planner.specs.PlanBytes.{plan_bytes}
-use Rattle.plan_tests.specs.Sizes.{Sized}
 use Rattle.plan_tests.specs.Tests.{tests_hold}
 
 -- of bytes with a layout: the wiring inside is accepted and they are the bytes that the planner writes for it, exactly if they pass the

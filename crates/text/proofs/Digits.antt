@@ -10,8 +10,6 @@ use borrow.Author.Tests.{lt-ltb, le-ltb}
 use Rattle.rack.proofs.Logic.{by_lt}
 use Rattle.rack.proofs.Lists.{In, in_append}
 use Rattle.text.specs.Decimals.{digit_code, digits, value_behind, value}
-use Rattle.text.specs.Putting.{Puts}
-use Rattle.text.proofs.Putting.{puts_then, puts_as}
 
 -- THE DIGITS one by one
 pub digits_none : (left v : ℕ) → left ≡ 0 → digits left v ≡ []
@@ -100,12 +98,11 @@ digits_codes (suc left) v x m =
         → (digit_code 0 ≤ x) × (x ≤ digit_code 9)
     more higher k = ⊎_elim higher (one_code (v % 10) (mod-lt v (omega arith))) (in_append x (digits left (v / 10)) (digit_code (v % 10) ∷ []) k)
 
--- DIGITS APPENDED: the last, or the higher ones and then the last
-pub puts_last : {at next : ℕ} {old new : List ℕ} (left v d : ℕ) → left ≢ 0 → v < 10 → d ≡ digit_code v → Puts at old new (d ∷ []) next
-    → Puts at old new (digits left v) next
-puts_last left v d z h e p = puts_as (ap (λ (x : ℕ). x ∷ []) e ∙ sym (digits_last left v z h)) p
+-- THE LAST DIGIT behind the higher ones, if there are any
+pub digits_only : (left v d : ℕ) → left ≢ 0 → v < 10 → d ≡ digit_code (v % 10) → d ∷ [] ≡ digits left v
+digits_only left v d z h e =
+    let m : v % 10 ≡ v = omega arith in
+    ap (λ (x : ℕ). x ∷ []) (e ∙ ap digit_code m) ∙ sym (digits_last left v z h)
 
-pub puts_more : {at next last : ℕ} {old mid new : List ℕ} (left v d : ℕ) → left ≢ 0 → 10 ≤ v → d ≡ digit_code (v % 10)
-    → Puts at old mid (digits (left - 1) (v / 10)) next → Puts next mid new (d ∷ []) last → Puts at old new (digits left v) last
-puts_more left v d z h e p q =
-    puts_as (ap (λ (x : ℕ). digits (left - 1) (v / 10) ++ (x ∷ [])) e ∙ sym (digits_more left v z h)) (puts_then p q)
+pub digits_and_last : (left v d : ℕ) → left ≢ 0 → 10 ≤ v → d ≡ digit_code (v % 10) → digits (left - 1) (v / 10) ++ (d ∷ []) ≡ digits left v
+digits_and_last left v d z h e = ap (λ (x : ℕ). digits (left - 1) (v / 10) ++ (x ∷ [])) e ∙ sym (digits_more left v z h)

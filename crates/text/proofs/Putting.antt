@@ -1,17 +1,14 @@
--- Text appended piece by piece: none, a byte, one piece after another. Assumes nothing.
-use mathlib.Core.Path.{◌≡◌, sym, subst}
-use mathlib.Core.List.{List, [], ◌∷◌, ◌++◌}
-use Prim.Native.Nat.{ℕ, ◌+◌, ◌≤◌, ◌<◌}
+-- A text that grows piece by piece: by nothing, one piece after another, and the room for them. Assumes nothing.
+use mathlib.Core.Path.{◌≡◌, refl, sym, subst, ◌∙◌}
+use mathlib.Core.List.{List, [], ◌++◌}
+use Prim.Native.Nat.{ℕ, ◌+◌, ◌≤◌}
 use native.Mathlib.Omega.{arith}
-use lib.ListN.{length, set, length-append}
-use Rattle.rack.proofs.Appending.{written_more, appended_none, appends_then}
-use Rattle.text.specs.Putting.{Puts}
-
-pub puts_none : (at : ℕ) (old : List ℕ) → Puts at old old [] at
-puts_none at old = record { place = omega arith; adds = (appended_none at old).adds }
-
-pub puts_byte : (at : ℕ) (old : List ℕ) (b : ℕ) → at < length old → Puts at old (set old at b) (b ∷ []) (at + 1)
-puts_byte at old b h = record { place = omega arith; adds = λ xs e w. written_more old xs at b e h w }
+use borrow.Rule.Slice.PartMut.{put_mid}
+use lib.ListN.{length, length-append}
+use Rattle.std.proofs.lemmas.List.{length-drop, length-take-le}
+use Rattle.rack.proofs.Appending.{appended_none, appends_then}
+use Rattle.text.specs.declared.put.Text.{Text}
+use Rattle.text.specs.Putting.{Puts, Grows}
 
 pub puts_then : {at next last : ℕ} {old mid new ys zs : List ℕ} → Puts at old mid ys next → Puts next mid new zs last
     → Puts at old new (ys ++ zs) last
@@ -21,17 +18,23 @@ puts_then {at} {next} {last} {old} {mid} {new} {ys} {zs} a b =
       adds = appends_then at next old mid new ys zs (sym a.place) a.adds b.adds;
     }
 
-pub puts_as : {at next : ℕ} {old new ys zs : List ℕ} → ys ≡ zs → Puts at old new ys next → Puts at old new zs next
-puts_as {at} {next} {old} {new} e p = subst (λ (xs : List ℕ). Puts at old new xs next) e p
+pub grows_none : (t : Text) → Grows t t []
+grows_none t = record { same = refl; room = refl; puts = record { place = omega arith; adds = (appended_none t.length t.bytes.now).adds } }
+
+pub grows_then : {a b c : Text} {ys zs : List ℕ} → Grows a b ys → Grows b c zs → Grows a c (ys ++ zs)
+grows_then p q = record { same = q.same ∙ p.same; room = q.room ∙ p.room; puts = puts_then p.puts q.puts }
+
+pub grows_as : {a b : Text} {ys zs : List ℕ} → ys ≡ zs → Grows a b ys → Grows a b zs
+grows_as {a} {b} e p = subst (λ (xs : List ℕ). Grows a b xs) e p
 
 -- ROOM for a text is room for its first part, and behind that for the second
 pub room_first : (at room : ℕ) (ys zs : List ℕ) → at + length (ys ++ zs) ≤ room → at + length ys ≤ room
 room_first at room ys zs h = omega (arith, length-append ys zs)
 
-pub room_then : (room left : ℕ) {at next : ℕ} {old mid ys : List ℕ} (zs : List ℕ) → Puts at old mid ys next → left ≡ room
-    → at + length (ys ++ zs) ≤ room → next + length zs ≤ left
-room_then room left {ys = ys} zs p e h = omega (arith, length-append ys zs, p.place)
+pub room_then : {a b : Text} {ys : List ℕ} (zs : List ℕ) → Grows a b ys → a.length + length (ys ++ zs) ≤ length a.bytes.now
+    → b.length + length zs ≤ length b.bytes.now
+room_then {ys = ys} zs p h = omega (arith, length-append ys zs, p.puts.place, p.room)
 
-pub room_byte : (room left : ℕ) {at next : ℕ} {old mid ys : List ℕ} (b : ℕ) → Puts at old mid ys next → left ≡ room
-    → at + length (ys ++ (b ∷ [])) ≤ room → next < left
-room_byte room left b p e h = omega (arith, room_then room left (b ∷ []) p e h)
+-- A PART written at once leaves the buffer as long
+pub length_part : (at n : ℕ) (old ys : List ℕ) → length ys ≡ n → at + n ≤ length old → length (put_mid at n old ys) ≡ length old
+length_part at n old ys l h = simp (length-append, length-drop) (omega (arith, length-take-le at old (omega arith)))

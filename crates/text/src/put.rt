@@ -1,28 +1,56 @@
-// Bytes and decimal numbers, appended to a lent buffer that is zero behind them. Each function gives the next position.
+// A text in a lent buffer: bytes and decimal numbers are appended where it ends.
 ghost use Rattle.std.specs.Prelude.{◌≡◌, [], ◌∷◌, ◌+◌, ◌<◌, ◌≤◌, length};
 ghost use Rattle.text.specs.Decimals.{digit_code, digits, decimal};
-ghost use Rattle.text.specs.Putting.{Puts};
+ghost use Rattle.text.specs.Putting.{Grows};
 
-// Appends a byte.
-pub fn put_byte(text: &mut [u8], at: usize, b: u8) -> usize
-    requires { at < length text.old }
-    ensures { Puts at text.old text.new (b ∷ []) result }
-{
-    text[at] = b;
-    at + 1
+// The buffer, and how many of its bytes are written.
+#[derive(Drop)]
+pub struct Text<'a> {
+    pub bytes: &'a mut [u8],
+    pub length: usize,
 }
 
-// Appends bytes.
-pub fn put_bytes(text: &mut [u8], at: usize, bytes: &[u8]) -> usize
-    requires { at + length bytes.now ≤ length text.old }
-    ensures { Puts at text.old text.new bytes.now result }
-{
-    let mut i: usize = 0;
-    while i < bytes.len() {
-        text[at + i] = bytes[i];
-        i += 1;
+impl<'a> Text<'a> {
+    // Appends a byte.
+    pub fn put_byte(&mut self, b: u8)
+        requires { self.old.length < length self.old.bytes.now }
+        ensures { Grows self.old self.new (b ∷ []) }
+    {
+        self.bytes[self.length] = b;
+        self.length += 1;
     }
-    at + i
+
+    // Appends bytes.
+    pub fn put_bytes(&mut self, bytes: &[u8])
+        requires { self.old.length + length bytes.now ≤ length self.old.bytes.now }
+        ensures { Grows self.old self.new bytes.now }
+    {
+        let end = self.length + bytes.len();
+        self.bytes[self.length..end].copy_from_slice(bytes);
+        self.length = end;
+    }
+
+    // Appends at most `left` digits of a number.
+    fn put_digits(&mut self, v: u32, left: u32)
+        requires { self.old.length + length (digits left v) ≤ length self.old.bytes.now }
+        ensures { Grows self.old self.new (digits left v) }
+    {
+        if left == 0 {
+            return;
+        }
+        if v >= 10 {
+            self.put_digits(v / 10, left - 1);
+        }
+        self.put_byte(digit(v % 10));
+    }
+
+    // Appends a decimal number.
+    pub fn put_decimal(&mut self, v: u32)
+        requires { self.old.length + length (decimal v) ≤ length self.old.bytes.now }
+        ensures { Grows self.old self.new (decimal v) }
+    {
+        self.put_digits(v, 10);
+    }
 }
 
 // The code of a digit.
@@ -30,28 +58,5 @@ pub fn digit(d: u32) -> u8
     requires { d < 10 }
     ensures { result ≡ digit_code d }
 {
-    48 + (d as u8)
-}
-
-// Appends at most `left` digits of a number.
-fn put_digits(text: &mut [u8], at: usize, v: u32, left: u32) -> usize
-    requires { at + length (digits left v) ≤ length text.old }
-    ensures { Puts at text.old text.new (digits left v) result }
-{
-    if left == 0 {
-        return at;
-    }
-    if v < 10 {
-        return put_byte(text, at, digit(v));
-    }
-    let next = put_digits(text, at, v / 10, left - 1);
-    put_byte(text, next, digit(v % 10))
-}
-
-// Appends a decimal number.
-pub fn put_decimal(text: &mut [u8], at: usize, v: u32) -> usize
-    requires { at + length (decimal v) ≤ length text.old }
-    ensures { Puts at text.old text.new (decimal v) result }
-{
-    put_digits(text, at, v, 10)
+    b'0' + (d as u8)
 }

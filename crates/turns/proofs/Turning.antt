@@ -1,8 +1,9 @@
 -- The choice between two frames, by cases: whose turn it is, the refusals in their order, and what each return says. Assumes nothing.
+use Rattle.std.specs.Prelude.{Result, Ok, Err}
 use mathlib.Core.Path.{◌≡◌, refl, sym, ap, ◌∙◌}
 use mathlib.Core.Bool.{true, false, cond}
-use mathlib.Core.Logic.{◌⊎◌, inl, inr, ◌≢◌}
-use mathlib.Core.List.{List, []}
+use mathlib.Core.Logic.{◌⊎◌, inl, inr, ⊎_elim, ◌≢◌}
+use mathlib.Core.List.{List}
 use Prim.Native.Nat.{ℕ, suc, ◌+◌, ◌≤◌, ◌<◌}
 use native.Mathlib.Omega.{arith}
 use lib.Dec.{ltb, leb}
@@ -11,7 +12,11 @@ use borrow.Author.Tests.{eq-eqb, ne_eqb, lt-ltb, le-ltb, le-leb, lt-leb, leb-tru
 use denote.Ref.{Bor}
 use Rattle.rack.specs.Limits.{most_callers, most_traffic}
 use Rattle.rack.proofs.Logic.{true_not_false, by_bool, by_lt, or_right}
-use Rattle.turns.specs.Turns.{least_frame, frame_caller, first_goes, next_caller, choice_refusal, turns_after, ChoiceSays}
+use Rattle.rack.specs.Refused.{number_of, refusal_of}
+use Rattle.rack.specs.declared.refused.Refused.{Refused}
+use Rattle.rack.specs.declared.refused.Refused.TheVariants.{NoFrame}
+use Rattle.turns.specs.Turns.{least_frame, frame_caller, first_goes, next_caller, choice_refusal, turns_after, FrameSays, ChoiceSays, part_of}
+use Rattle.turns.specs.declared.frames.Frame.{Frame}
 use Rattle.turns.specs.Promises.{ChoiceRefused}
 
 -- TWO FRAMES as 19 and 18 refuse them, and as neither does
@@ -26,6 +31,10 @@ pub record Fit (f g : List ℕ) : Type 0 where
   pub second : least_frame ≤ length g
   pub caller : frame_caller f < most_callers
   pub other : frame_caller g < most_callers
+
+-- .. as reading them says
+pub both_fit : (f g : List ℕ) (r s : Frame) → FrameSays f (Ok r) → FrameSays g (Ok s) → r.caller < most_callers → s.caller < most_callers → Fit f g
+both_fit f g r s a b h k = record { first = a.0; second = b.0; caller = omega (arith, a.2); other = omega (arith, b.2) }
 
 module _ (f g ts : List ℕ) where
   abbrev next : ℕ
@@ -141,34 +150,6 @@ module _ (f g ts : List ℕ) where
   unfolding turns_after
   turns_counted e = rw (eq-eqb refused 0 e) refl
 
-  -- WHAT THE CODE HAS READ: the callers i and j of two frames, and their turns x and y
-  pub record TurnsAre (i j x y : ℕ) : Type 0 where
-    pub caller : i ≡ frame_caller f
-    pub other : j ≡ frame_caller g
-    pub turns : x ≡ get_or ts i 0
-    pub others : y ≡ get_or ts j 0
-
-  module _ {i j x y : ℕ} (t : TurnsAre i j x y) where
-    level_first : x ≤ y → first_goes f g ts ≡ true
-    unfolding first_goes
-    level_first h = rw (← t.caller, ← t.other, ← t.turns, ← t.others) (le-leb x y h)
-
-    more_second : y < x → first_goes f g ts ≡ false
-    unfolding first_goes
-    more_second h = rw (← t.caller, ← t.other, ← t.turns, ← t.others) (lt-leb x y h)
-
-    pub turns_first : x ≤ y → get_or ts next 0 ≡ x
-    turns_first h = rw (next_first (level_first h), ← t.caller) (sym t.turns)
-
-    pub turns_second : y < x → get_or ts next 0 ≡ y
-    turns_second h = rw (next_second (more_second h), ← t.other) (sym t.others)
-
-    counted_first : x ≤ y → refused ≡ 0 → set ts i (x + 1) ≡ turns_after f g ts
-    counted_first h e = rw (turns_counted e, turns_first h, next_first (level_first h), ← t.caller) (ap (set ts i) (omega arith))
-
-    counted_second : y < x → refused ≡ 0 → set ts j (y + 1) ≡ turns_after f g ts
-    counted_second h e = rw (turns_counted e, turns_second h, next_second (more_second h), ← t.other) (ap (set ts j) (omega arith))
-
 pub choice_refused : ChoiceRefused
 unfolding ChoiceRefused
 choice_refused f g ts few = (
@@ -192,35 +173,60 @@ choice_refused f g ts few = (
     )
 
 -- WHAT EACH RETURN SAYS
-module _ (f g : Bor (List ℕ)) (ts : List ℕ) {n : ℕ} (e : n ≡ choice_refusal f.now g.now ts) where
-  -- with none of the first frame's bytes, from its start
-  pub says_refused : {r : Bor (List ℕ)} → n ≢ 0 → r.ref_ptr ≡ (f.ref_ptr.0, 0 + f.ref_ptr.1) → r.now ≡ [] → ChoiceSays f g ts r ts n
-  says_refused d place bytes =
+module _ (f g : Bor (List ℕ)) (ts : List ℕ) where
+  -- with a refusal no frame and no turn
+  pub says_refused : (e : Refused) → choice_refusal f.now g.now ts ≡ (refusal_of e).number → (refusal_of e).number ≢ 0
+      → ChoiceSays f g ts (part_of f.ref_ptr (Err e)) ts (refusal_of e).number
+  says_refused e h d =
       record {
-        number = e;
+        number = sym h;
         first = λ z. absurd (d z);
         second = λ z. absurd (d z);
-        none = λ _. record { place = place ∙ ap (λ (o : ℕ). (f.ref_ptr.0, o)) (omega arith); bytes = bytes };
-        turns = sym (turns_kept f.now g.now ts (λ z. d (e ∙ z)));
+        none = λ _. record { place = refl; bytes = refl };
+        turns = sym (turns_kept f.now g.now ts (λ z. d (sym h ∙ z)));
       }
 
-  module _ {i j x y : ℕ} (z : n ≡ 0) (t : TurnsAre f.now g.now ts i j x y) where
-    pub says_first : x ≤ y → ChoiceSays f g ts f (set ts i (x + 1)) n
-    says_first h =
+  -- as reading a frame refuses it
+  pub says_short : Short f.now g.now → (r : Result (Bor (List ℕ)) Refused) → r ≡ Err NoFrame
+      → ChoiceSays f g ts (part_of f.ref_ptr r) ts (number_of r)
+  says_short h r e = rw e (says_refused NoFrame (short_refused f.now g.now ts h) (λ z. omega arith))
+
+  -- the frame r that the code has chosen, and its caller u
+  module _ (r : Bor (List ℕ)) (u : ℕ) where
+    abbrev pub Goes : Type 0
+    Goes =
+        ((first_goes f.now g.now ts ≡ true) × (r ≡ f) × (u ≡ frame_caller f.now))
+        ⊎ ((first_goes f.now g.now ts ≡ false) × (r ≡ g) × (u ≡ frame_caller g.now))
+
+    pub goes_next : Goes → next_caller f.now g.now ts ≡ u
+    goes_next (inl (h, _, e)) = next_first f.now g.now ts h ∙ sym e
+    goes_next (inr (h, _, e)) = next_second f.now g.now ts h ∙ sym e
+
+    counted : Goes → choice_refusal f.now g.now ts ≡ 0 → set ts u (get_or ts u 0 + 1) ≡ turns_after f.now g.now ts
+    counted p z = sym (turns_counted f.now g.now ts z ∙ rw (goes_next p) (ap (set ts u) (omega arith)))
+
+    pub says_chosen : Goes → choice_refusal f.now g.now ts ≡ 0 → ChoiceSays f g ts r (set ts u (get_or ts u 0 + 1)) 0
+    says_chosen p z =
         record {
-          number = e;
-          first = λ _ _. record { place = refl; bytes = refl };
-          second = λ _ k. true_not_false (first_goes f.now g.now ts) (level_first f.now g.now ts t h) k;
-          none = λ d. absurd (d z);
-          turns = counted_first f.now g.now ts t h (sym e ∙ z);
+          number = sym z;
+          first = λ _ k. ⊎_elim
+              (λ o. rw o.1 (record { place = refl; bytes = refl }))
+              (λ o. true_not_false (first_goes f.now g.now ts) k o.0)
+              p;
+          second = λ _ k. ⊎_elim
+              (λ o. true_not_false (first_goes f.now g.now ts) o.0 k)
+              (λ o. rw o.1 (record { place = refl; bytes = refl }))
+              p;
+          none = λ d. absurd (d refl);
+          turns = counted p z;
         }
 
-    pub says_second : y < x → ChoiceSays f g ts g (set ts j (y + 1)) n
-    says_second h =
-        record {
-          number = e;
-          first = λ _ k. true_not_false (first_goes f.now g.now ts) k (more_second f.now g.now ts t h);
-          second = λ _ _. record { place = refl; bytes = refl };
-          none = λ d. absurd (d z);
-          turns = counted_second f.now g.now ts t h (sym e ∙ z);
-        }
+  -- where both frames have been read, and the turns of their callers compared
+  module _ (p : Bor (List ℕ) × ℕ) {i j : ℕ} (caller : i ≡ frame_caller f.now) (other : j ≡ frame_caller g.now) where
+    pub goes_first : get_or ts i 0 ≤ get_or ts j 0 → p ≡ (f, i) → Goes p.0 p.1
+    unfolding first_goes
+    goes_first h e = rw (e, ← caller, ← other) (inl (le-leb (get_or ts i 0) (get_or ts j 0) h, refl, refl))
+
+    pub goes_second : get_or ts j 0 < get_or ts i 0 → p ≡ (g, j) → Goes p.0 p.1
+    unfolding first_goes
+    goes_second h e = rw (e, ← caller, ← other) (inr (lt-leb (get_or ts i 0) (get_or ts j 0) h, refl, refl))

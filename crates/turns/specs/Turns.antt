@@ -1,9 +1,12 @@
 -- The first bytes of a frame, and which of two waiting frames goes by the turns of their callers. Assumes nothing: these are definitions.
 -- Quotations: docs/REQUIREMENTS.md.
-use Rattle.std.specs.Prelude.{◌≡◌, Bool, true, false, ◌||◌, cond, ◌≢◌, List, [], ℕ, suc, ltb, leb, eqb, length, get_or, set}
+use Rattle.std.specs.Prelude.{◌≡◌, Bool, true, false, ◌||◌, cond, ◌≢◌, List, [], ℕ, suc, ◌≤◌, ◌<◌, ltb, leb, eqb, length, get_or, set, Result, Ok, Err}
 use Rattle.std.specs.Borrow.{Bor}
 use Rattle.rack.specs.Limits.{most_callers, most_traffic}
 use Rattle.rack.specs.Buffers.{number_at, SliceIs}
+use Rattle.rack.specs.declared.refused.Refused.{Refused}
+use Rattle.rack.specs.declared.refused.Refused.TheVariants.{NoFrame}
+use Rattle.turns.specs.declared.frames.Frame.{Frame}
 
 -- A FRAME: "A frame's first two bytes are its destination, low byte first, its third its caller"; what follows is its own
 abbrev pub least_frame : ℕ
@@ -14,6 +17,11 @@ frame_goal f = number_at f 0
 
 unfoldable pub frame_caller : List ℕ → ℕ
 frame_caller f = get_or f 2 0
+
+-- both, or 19
+abbrev pub FrameSays : List ℕ → Result Frame Refused → Type 0
+FrameSays f (Ok r) = (least_frame ≤ length f) × (r.goal ≡ frame_goal f) × (r.caller ≡ frame_caller f)
+FrameSays f (Err e) = (length f < least_frame) × (e ≡ NoFrame)
 
 -- OF TWO FRAMES, with the turns of each caller: "the one whose caller has had fewer turns, the first if level"
 unfoldable pub first_goes : (first second turns : List ℕ) → Bool
@@ -42,3 +50,8 @@ pub record ChoiceSays (f g : Bor (List ℕ)) (ts : List ℕ) (r : Bor (List ℕ)
   pub second : x ≡ 0 → first_goes f.now g.now ts ≡ false → SliceIs g.ref_ptr g.now r
   pub none : x ≢ 0 → SliceIs f.ref_ptr [] r
   pub turns : ts_now ≡ turns_after f.now g.now ts
+
+-- what a choice hands back: with a refusal an empty part, at the place of the first frame
+abbrev pub part_of : (place : ℕ × ℕ) → Result (Bor (List ℕ)) Refused → Bor (List ℕ)
+part_of place (Ok r) = r
+part_of place (Err e) = record { ref_ptr = place; now = [] }

@@ -12,7 +12,7 @@ use Rattle.rack.specs.Hops.{hops}
 use Rattle.rack.specs.Columns.{nearer_first, side, column}
 use Rattle.rack.specs.Refusals.{parity_refusal}
 use Rattle.rack.proofs.Logic.{by_lt}
-use Rattle.rack.proofs.Lists.{In, in_getD}
+use Rattle.rack.proofs.Lists.{In, in_get_or}
 use Rattle.rack.proofs.Tables.{tabulate_ext}
 use Rattle.rack.proofs.Paths.{Ends, joins_ends, link_joins}
 use Rattle.rack.proofs.Crossing.{Rack}
@@ -58,5 +58,5 @@ module _ (w : Wiring) (rack : Rack w) (even : (parity_refusal w).number ≡ 0) (
 pub twins_alike : TwinsAlike
 unfolding TwinsAlike
 twins_alike w i j f c even hi hj h =
-    column_twin w (well_formed_rack w f c) even (link_at w i) (link_at w j) (in_getD w.links i (link 0 0) hi)
+    column_twin w (well_formed_rack w f c) even (link_at w i) (link_at w j) (in_get_or w.links i (link 0 0) hi)
     (joins_ends (link_at w i).first (link_at w i).second (link_at w j) h)

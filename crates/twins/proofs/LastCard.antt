@@ -11,7 +11,7 @@ use Rattle.rack.specs.Wiring.{Link, Wiring, link, link_count, link_at, joins, to
 use Rattle.rack.specs.Refusals.{links_refusal, well_formed}
 use Rattle.rack.specs.PlanFile.{plan_wiring}
 use Rattle.rack.proofs.Logic.{not_true_false, and_right}
-use Rattle.rack.proofs.Lists.{In, getD_in, none_count, count_snoc}
+use Rattle.rack.proofs.Lists.{In, get_or_in, none_count, count_snoc}
 use Rattle.rack.proofs.Tables.{lowest_least}
 use Rattle.rack.proofs.Paths.{Ends, joins_ends, ends_join}
 use Rattle.rack.proofs.Refusals.{JoinsCards}
@@ -40,7 +40,7 @@ module _ (w : Wiring) (c : ℕ) (formed : well_formed w ≡ true) (inside : c < 
   old_joins : (l : Link) → In l w.links → JoinsCards w l
   unfolding TwoMayJoin well_formed
   old_joins l m =
-      let r = getD_in w.links (link 0 0) l m in
+      let r = get_or_in w.links (link 0 0) l m in
       let number = eqb-true (links_refusal w).number 0 (and_right (leb 1 w.cards) _ formed) in
       subst (JoinsCards w) r.2 (((two_may_join w).0 number).0 r.0 r.1)
 

@@ -14,7 +14,7 @@ use Rattle.rack.specs.Embeddings.{reduced_columns, times}
 use Rattle.rack.specs.Refusals.{Refusal, well_formed, rack_refusal}
 use Rattle.rack.specs.Promises.{EmbeddingUnique}
 use Rattle.rack.proofs.Logic.{by_bool, equal_if_both}
-use Rattle.rack.proofs.Lists.{in_getD, getD_in}
+use Rattle.rack.proofs.Lists.{in_get_or, get_or_in}
 use Rattle.rack.proofs.Tables.{lowest_ext}
 use Rattle.rack.proofs.Paths.{Ends, linked_link, link_joins, path_next, next_path, path_here, path_zero}
 use Rattle.rack.proofs.Refusals.{well_formed_rack}
@@ -60,9 +60,9 @@ module _ (v w : Wiring) (s : SamePairs v w) where
   unfolding TwinsKeepHops
   level_carried (i, l, e) =
       let k = link_at v i in
-      let joined = sym (s.1 k.first k.second) ∙ link_joins v k (in_getD v.links i (link 0 0) l) in
+      let joined = sym (s.1 k.first k.second) ∙ link_joins v k (in_get_or v.links i (link 0 0) l) in
       let r = linked_link w k.first k.second joined in
-      let at = getD_in w.links (link 0 0) r.0 r.1 in
+      let at = get_or_in w.links (link 0 0) r.0 r.1 in
       let level = sym (twins_keep_hops v w s 0 k.first) ∙ e ∙ twins_keep_hops v w s 0 k.second in
       (at.0, at.1, subst (λ (j : Link). hops w 0 j.first ≡ hops w 0 j.second) (sym at.2) (either r.0 k level r.2))
     where

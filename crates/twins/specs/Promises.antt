@@ -11,11 +11,9 @@ use Rattle.rack.specs.PlanFile.{plan_wiring}
 use Rattle.pendant.specs.Pendant.{with_card, last_hangs}
 use Rattle.reader.specs.Plan.{layout_holds}
 use Rattle.forwarder.specs.Forwarding.{step, walk}
-use Rattle.forwarder.specs.Calls.{StepSays}
-use Rattle.forwarder.specs.declared.step.Stepped.{Stepped}
-use Rattle.last_card.specs.Calls.{TakeOffSays}
+use Rattle.forwarder.specs.Calls.{StepSays, Stepped}
+use Rattle.last_card.specs.Calls.{SummedPlan, TakeOffSays}
 use Rattle.last_card.specs.Promises.{ReadWith}
-use Rattle.last_card.specs.declared.SummedPlan.{SummedPlan}
 
 -- link i is "a third link between two cards": two earlier ones join them, drawn either way
 abbrev pub ThirdLink : Wiring → (i : ℕ) → Type 0

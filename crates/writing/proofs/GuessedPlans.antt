@@ -1,31 +1,36 @@
 -- A plan written from a file and any words has the file's wiring inside, so where it is read it is the planner's plan of the file. Assumes
 -- nothing.
 use mathlib.Core.Path.{◌≡◌, refl, sym, ap, ◌∙◌}
+use mathlib.Core.Bool.{true}
 use mathlib.Core.List.{List, ◌++◌}
 use Prim.Native.Nat.{ℕ, suc, ◌+◌, ◌*◌, ◌-◌, ◌<◌}
 use native.Mathlib.Omega.{arith}
-use lib.ListN.{length, get_or, take, drop, replicate}
+use lib.ListN.{length, take, drop}
 use lib.Seq.{take-append_seam}
+use Rattle.std.specs.Prelude.{Result, Ok, Err, is_ok}
 use Rattle.rack.specs.Lists.{tabulate, blocks}
-use Rattle.rack.specs.Limits.{lent_plan}
 use Rattle.rack.specs.Wiring.{Wiring}
 use Rattle.rack.specs.Buffers.{number_at, two_bytes, Written}
 use Rattle.rack.specs.WiringFile.{file_wiring, sizes_fault}
 use Rattle.rack.specs.PlanFile.{address_size, plan_wiring}
+use Rattle.rack.proofs.Logic.{true_not_false}
 use Rattle.rack.proofs.Accepted.{clear_file}
 use Rattle.rack.proofs.WiringFile.{Fits, two_bytes_value, wiring_at_written, wiring_at_cards, wiring_at_count, wiring_at_link}
 use Rattle.plan_writer.specs.Writing.{word_byte, written_bytes}
 use Rattle.planner.specs.PlanBytes.{plan_bytes}
-use Rattle.writing.proofs.SaidWritten.{ends_written}
+use Rattle.planner.proofs.WriteAnswer.{ends_written}
+use Rattle.rack.specs.declared.refused.Refused.{Refused}
+use Rattle.rack.specs.declared.views.Plan.{Plan}
 use Rattle.reader.specs.Plan.{plan_refusal}
-use Rattle.reader.proofs.Plan.{layout_facts, layout_head, plan_clear}
-use Rattle.writing.specs.Guessing.{GuessSays}
+use Rattle.reader.specs.Reading.{ReadSays, sizes_of}
+use Rattle.reader.proofs.Plan.{plan_clear}
+use Rattle.writing.specs.Guessing.{Bytes, GuessIs}
 
-number_small : (bs : List ℕ) → ((i : ℕ) → get_or bs i 0 < 256) → (p : ℕ) → number_at bs p < 65536
+number_small : (bs : List ℕ) → Bytes bs → (p : ℕ) → number_at bs p < 65536
 unfolding number_at
 number_small bs bytes p = omega (arith, bytes p, bytes (suc p))
 
-module _ (bs ws : List ℕ) (k : ℕ) (bytes : (i : ℕ) → get_or bs i 0 < 256) where
+module _ (bs ws : List ℕ) (k : ℕ) (bytes : Bytes bs) where
   abbrev w : Wiring
   w = file_wiring bs
 
@@ -58,19 +63,18 @@ module _ (bs ws : List ℕ) (k : ℕ) (bytes : (i : ℕ) → get_or bs i 0 < 256
     part : take (length (written_bytes bs ws k)) (drop 0 out) ≡ written_bytes bs ws k
     part = rw written.is (take-append_seam (written_bytes bs ws k) _)
 
-    pub guess_read : (v : ℕ) → v ≡ length (written_bytes bs ws k) → plan_refusal (take (v - 0) (drop 0 out)) ≡ 0 → GuessSays bs v out
+    pub guess_read : (v : ℕ) → v ≡ length (written_bytes bs ws k) → plan_refusal (take (v - 0) (drop 0 out)) ≡ 0 → GuessIs bs out v
     guess_read v e read =
         let all : v - 0 ≡ length (written_bytes bs ws k) = omega arith in
         let clear = plan_clear (written_bytes bs ws k) (rw (all, part) at read) in
         let same : plan_bytes w ≡ written_bytes bs ws k = rw guess_wiring at clear.2 in
-        let long = layout_head (written_bytes bs ws k) (layout_facts (written_bytes bs ws k) clear.0) in
         record {
-          none = λ z. absurd (omega arith);
-          accepted = λ n. clear_file bs sized (rw guess_wiring at clear.1);
-          is = λ n. e ∙ ap length (sym same);
-          written = λ n. rw same written;
+          accepted = clear_file bs sized (rw guess_wiring at clear.1);
+          is = e ∙ ap length (sym same);
+          written = rw same written;
         }
 
--- no guess
-pub no_guess : (bs out : List ℕ) → out ≡ replicate lent_plan 0 → GuessSays bs 0 out
-no_guess bs out e = record { none = λ z. e; accepted = λ n. absurd (n refl); is = λ n. absurd (n refl); written = λ n. absurd (n refl) }
+-- what is read is not refused
+pub read_clear : (ps : List ℕ) (r : Result Plan Refused) → true ≡ is_ok r → ReadSays ps (sizes_of r) → plan_refusal ps ≡ 0
+read_clear ps (Ok p) t says = sym says.number
+read_clear ps (Err e) t says = true_not_false true refl t

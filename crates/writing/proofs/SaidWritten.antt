@@ -1,4 +1,4 @@
--- What writing says of an accepted file, whatever stood in the buffer, and the bytes of the ends. Assumes nothing.
+-- What writing says of an accepted file, whatever stood in the buffer. Assumes nothing.
 use mathlib.Core.Path.{◌≡◌, refl, sym, ap, ap₂, ◌∙◌}
 use mathlib.Core.Logic.{◌≢◌}
 use mathlib.Core.List.{List, ◌++◌}
@@ -21,35 +21,10 @@ use Rattle.planner.specs.PlanBytes.{plan_bytes}
 use Rattle.rack.specs.Limits.{lent_plan}
 use Rattle.planner.specs.Planning.{left_in, writing_refusal, WriteSays}
 use Rattle.plan_writer.specs.Writing.{end_pair}
-use Rattle.planner.specs.declared.Answer.{Answer}
+use Rattle.planner.specs.Answer.{Answer}
 use Rattle.planner.proofs.Answers.{refusal_of_rack}
+use Rattle.planner.proofs.WriteAnswer.{at_zero}
 use Rattle.planner.proofs.PlanAnswer.{file_not_one, left_filled}
-
--- THE ENDS
-pub ends_written : (bs : List ℕ) → blocks (2 * number_at bs 2) (end_pair bs) ≡ end_bytes (file_wiring bs)
-unfolding end_bytes
-ends_written bs =
-    let m = number_at bs 2 in
-    let e : 2 * m ≡ m + m = omega arith in
-    rw (e, wiring_at_count 4 bs)
-    (blocks_add m m (end_pair bs)
-    ∙ ap₂ ◌++◌
-    (blocks_ext m (end_pair bs) (λ i. two_bytes (link_at (file_wiring bs) i).first) (λ i h. sym (ap (λ (l : Link). two_bytes l.first) (wiring_at_link 4 bs i h))))
-    (blocks_ext m (λ i. end_pair bs (m + i)) (λ i. two_bytes (link_at (file_wiring bs) i).second) (λ i h.
-    ap (λ (p : ℕ). two_bytes (number_at bs p)) (end_place m i) ∙ sym (ap (λ (l : Link). two_bytes l.second) (wiring_at_link 4 bs i h)))))
-  where
-    end_place : (m i : ℕ) → 4 + 2 * (m + i) ≡ 4 + 2 * m + 2 * i
-    end_place m i = omega arith
-
--- an accepted file's refusal carries nothing
-at_zero : (bs : List ℕ) → (file_refusal bs).number ≡ 0 → (file_refusal bs).at ≡ 0
-unfolding wiring_refusal
-at_zero bs h =
-    let c = file_clear bs h in
-    let a = wiring_accepted (file_wiring bs) (omega (arith, c.0.some, wiring_at_cards 4 bs)) c.1 in
-    let links = (or_else_clear (links_refusal (file_wiring bs)) (rack_refusal (file_wiring bs)) c.1).0 in
-    ap (λ (f : Refusal). f.at) (refusal_of_rack bs (sized_clear bs c.0) links ∙ embedding_accepted (file_wiring bs) a.rack
-    (column_count (file_wiring bs)) (address (file_wiring bs)) a.embedding)
 
 -- WRITING the plan of an accepted file into a buffer of its length
 pub write_says_accepted : (bs o out : List ℕ) (v : ℕ) → length o ≡ lent_plan → (file_refusal bs).number ≡ 0 → length out ≡ length o

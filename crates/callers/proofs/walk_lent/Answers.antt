@@ -1,6 +1,9 @@
 -- 1, 12 and 19 come first; else the walk by the numbers in the frame's bytes. Assumes nothing.
-use mathlib.Core.Path.{sym, ◌∙◌}
-use native.Mathlib.Omega.{arith}
+use Rattle.std.proofs.Common.{sym, ◌∙◌, arith}
+use Rattle.std.proofs.lemmas.Result.{err_from_is_err_and}
+use Rattle.rack.specs.declared.refused.Refused.TheVariants.{Lent, NoFrame}
+use Rattle.rack.proofs.RefusalNumbers.{refusal_numbered}
+use Rattle.turns.specs.Turns.{frame_caller}
 use Rattle.callers.proofs.Refused.{lent_no_room, lent_no_plan, lent_short}
 use Rattle.callers.proofs.Answers.{refused_is, lent_answered}
 use Rattle.callers.proofs.Delivery.{with_lent_delivery}
@@ -8,48 +11,49 @@ use Rattle.callers.proofs.walk_lent.Goals as goal
 
 pub returns-then-met-ne-LENT_MET : goal.returns-then-met-ne-LENT_MET
 returns-then-met-ne-LENT_MET c =
-    let z = c.args in
-    let holds = with_lent_delivery z.plan.now z.from z.frame.now z.traffic c.not_walked.result z.met.now z.met.now
-    (refused_is _ _ _ _ _ 1 _ _ _ (λ e. omega arith) (lent_no_room _ _ _ _ _ (λ e. omega (arith, c.if-met-ne-LENT_MET.true))) c.not_walked.ensures) in
+    let holds = with_lent_delivery _ _ _ _ _ _ _ (refused_is _ _ _ _ _ _ Lent _ (lent_no_room _ _ _ _ _ c.if-met-ne-LENT_MET.true)) in
     record {
       says = holds.0;
       arrives = holds.1.0;
       full = holds.1.1;
     }
 
-pub returns-then-sizes-ne0 : goal.returns-then-sizes-ne0
-returns-then-sizes-ne0 c =
-    let layout = c.plan_layout-sizes.ensures.number in
+pub returns-in_err-plan_layout : goal.returns-in_err-plan_layout
+returns-in_err-plan_layout c =
+    let p = err_from_is_err_and c.from_residual.result c.from_residual.ensures.1 in
+    let number = c.in_err-plan_layout.ensures.says.number in
     let holds = with_lent_delivery _ _ _ _ _ _ _
-    (refused_is _ _ _ _ _ _ _ _ _ (λ e. omega (arith, c.if-sizes-ne0.true))
-    (lent_no_plan _ _ _ _ _ (omega (arith, c.if-met-ne-LENT_MET.false)) (λ e. omega (arith, layout, c.if-sizes-ne0.true)) ∙ sym layout)
-    c.not_walked-then-sizes-ne0.ensures) in
-    record {
+    (refused_is _ _ _ _ _ _ _ _
+    (lent_no_plan _ _ _ _ _ c.if-met-ne-LENT_MET.false (λ e. refusal_numbered _ (number ∙ e)) ∙ sym number)) in
+    rw (p.1, p.2) (record {
       says = holds.0;
       arrives = holds.1.0;
       full = holds.1.1;
-    }
+    })
 
-pub returns-then-frame-lt-LEAST_FRAME : goal.returns-then-frame-lt-LEAST_FRAME
-returns-then-frame-lt-LEAST_FRAME c =
-    let layout = c.plan_layout-sizes.ensures.number in
+pub returns-in_err-read : goal.returns-in_err-read
+returns-in_err-read c =
+    let p = err_from_is_err_and c.from_residual-in_err-read.result c.from_residual-in_err-read.ensures.1 in
+    let short = c.in_err-read.ensures in
     let holds = with_lent_delivery _ _ _ _ _ _ _
-    (refused_is _ _ _ _ _ 19 _ _ _ (λ e. omega arith)
-    (lent_short _ _ _ _ _ (omega (arith, c.if-met-ne-LENT_MET.false)) (omega (arith, layout, c.if-sizes-ne0.false)) (omega (arith, c.if-frame-lt-LEAST_FRAME.true)))
-    c.not_walked-then-frame-lt-LEAST_FRAME.ensures) in
-    record {
+    (refused_is _ _ _ _ _ _ NoFrame _
+    (lent_short _ _ _ _ _ c.if-met-ne-LENT_MET.false (sym c.in_ok-plan_layout.ensures.says.number) short.0)) in
+    rw (p.1, p.2, short.1) (record {
       says = holds.0;
       arrives = holds.1.0;
       full = holds.1.1;
-    }
+    })
+
+pub overflow_cast-read : goal.overflow_cast-read
+unfolding frame_caller
+overflow_cast-read c = omega (arith, c.in_ok-read.ensures.2, c.type_inv.frame 2)
 
 pub returns : goal.returns
 returns c =
-    let layout = c.plan_layout-sizes.ensures.number in
+    let read = c.in_ok-read.ensures in
     let holds = with_lent_delivery _ _ _ _ _ _ _
-    (lent_answered _ _ _ _ _ _ _ (omega (arith, c.if-met-ne-LENT_MET.false)) (omega (arith, layout, c.if-sizes-ne0.false))
-    (omega (arith, c.if-frame-lt-LEAST_FRAME.false)) c.frame_goal.ensures c.frame_caller.ensures
-    c.walk_by_caller.ensures.says) in
+    (lent_answered _ _ _ _ _ _ _ c.if-met-ne-LENT_MET.false (sym c.in_ok-plan_layout.ensures.says.number)
+    read.0 read.1 read.2 c.walk_by_caller.ensures.says) in
     record {
       says = holds.0;
       arrives = holds.1.0;

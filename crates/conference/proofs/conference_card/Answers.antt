@@ -1,17 +1,17 @@
 -- The number that reading answers comes before 14, and a plan that was read is measured. Assumes nothing.
-use Rattle.reader.proofs.AddressPart.{read_laid_out}
-use Rattle.conference.proofs.Answers.{read_refusal}
+use Rattle.std.proofs.lemmas.Result.{err_from_is_err_and}
+use Rattle.conference.specs.Conference.{conference_refusal}
+use Rattle.conference.proofs.Answers.{says_before}
 use Rattle.conference.proofs.conference_card.Goals as goal
 
-pub conference_sized-requires : goal.conference_sized-requires
-conference_sized-requires c =
-    let read = c.read_plan.ensures in
-    λ e. (read_laid_out _ 0 _ read.says e, read.promise e)
+pub returns-in_err-read_plan-clause-says : goal.returns-in_err-read_plan-clause-says
+unfolding conference_refusal
+returns-in_err-read_plan-clause-says c =
+    let p = err_from_is_err_and c.from_residual.result c.from_residual.ensures.1 in
+    rw (p.1, p.2, ← c.in_err-read_plan.ensures.says.number) (says_before _ _ _ _ _)
 
-pub returns : goal.returns
-returns c =
-    let holds = rw (read_refusal _ _ _ _ _ c.read_plan.ensures.says) at c.conference_sized.ensures in
-    record {
-      says = holds.says;
-      promise = holds.promise;
-    }
+pub returns-clause-says : goal.returns-clause-says
+unfolding conference_refusal
+returns-clause-says c =
+    let read = c.in_ok-read_plan.ensures in
+    rw (← read.says.number) (rw read.bytes at c.conference_sized.ensures.says)

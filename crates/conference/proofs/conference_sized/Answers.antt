@@ -1,49 +1,22 @@
--- A refusal is handed on with zeros, and else the answer is what the search gives. Assumes nothing.
-use native.Mathlib.Omega.{arith}
-use Rattle.conference.proofs.Answers.{laid_out, measured, cards_inside, says_refused, says_none, says_found}
+-- 14 where a number is no card's, and else the answer is what the search gives. Assumes nothing.
+use Rattle.std.proofs.Common.{refl, inl, inr, arith}
+use Rattle.conference.proofs.Answers.{says_outside, says_lowest}
 use Rattle.conference.proofs.Promises.{with_promise}
 use Rattle.conference.proofs.conference_sized.Goals as goal
+use Rattle.conference.proofs.conference_sized.Goals.{then-plan-a-via-then-plan-a, then-plan-a-via-else-plan-a+then-plan-b, then-plan-a-via-else-plan-a+else-plan-b+then-plan-c}
 
-pub returns-then-number-ne0 : goal.returns-then-number-ne0
-returns-then-number-ne0 c =
-    let known = c.requires in
-    let holds = with_promise _ _ _ _ _ (λ e. (known e).1) _
-    (says_refused _ _ _ _ _ known _ c.three_refusal-number.ensures _ (λ e. omega arith) c.no_card.ensures) in
-    record {
-      says = holds.0;
-      promise = holds.1;
-    }
-
-pub lowest_median-card-requires : goal.lowest_median-card-requires
-lowest_median-card-requires c =
-    let known = c.requires in
-    let clear = c.three_refusal-number.ensures in
-    let i = cards_inside _ _ _ _ _ known _ clear (omega arith) in (
-      c.ones_table-ones.ensures.counts,
-      laid_out _ _ _ _ _ known _ clear (omega arith),
-      measured _ _ _ _ _ known _ clear (omega arith),
-      i.0,
-      i.1,
-      i.2,
-    )
-
-pub returns-then-sizes-card : goal.returns-then-sizes-card
-returns-then-sizes-card c =
-    let known = c.requires in
-    let holds = with_promise _ _ _ _ _ (λ e. (known e).1) _
-    (says_none _ _ _ _ _ known _ c.three_refusal-number.ensures (omega arith) _ c.lowest_median-card.ensures _ (omega arith)
-    c.no_card-then-sizes-card.ensures) in
-    record {
-      says = holds.0;
-      promise = holds.1;
-    }
+pub returns-then-plan-a-clause-says : goal.returns-then-plan-a-clause-says
+returns-then-plan-a-clause-says c =
+    let cards = c.args.plan.sized.cards in
+    says_outside _ _ _ _
+    (elim c.then-plan-a.branch [
+      | then-plan-a-via-then-plan-a w ↦ inl (omega arith)
+      | then-plan-a-via-else-plan-a+then-plan-b w ↦ inr (inl (omega arith))
+      | then-plan-a-via-else-plan-a+else-plan-b+then-plan-c w ↦ inr (inr (omega arith))
+    ])
 
 pub returns : goal.returns
 returns c =
-    let known = c.requires in
-    let holds = with_promise _ _ _ _ _ (λ e. (known e).1) _
-    (says_found _ _ _ _ _ known _ c.three_refusal-number.ensures (omega arith) _ c.lowest_median-card.ensures (omega arith)) in
-    record {
-      says = holds.0;
-      promise = holds.1;
-    }
+    let cards = c.args.plan.sized.cards in
+    let says = says_lowest _ _ _ _ (omega arith) (omega arith) (omega arith) _ c.lowest_median.ensures in
+    record { says = says; promise = (with_promise _ _ _ _ 0 (λ _. c.requires) _ says).1 refl }

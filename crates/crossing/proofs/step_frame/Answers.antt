@@ -1,17 +1,25 @@
 -- A step over a link has both its cards in the plan, and the column between them. Assumes nothing.
 use native.Mathlib.Omega.{arith}
-use Rattle.crossing.proofs.Answers.{step_between_cards, step_crosses_none, step_crosses_column}
+use mathlib.Core.Path.{refl, sym}
+use Rattle.forwarder.specs.declared.step.Step.TheVariants.{Over}
+use Rattle.crossing.proofs.Answers.{step_answered, far_is_card, not_over, step_crosses_none, step_crosses_column}
 use Rattle.crossing.proofs.step_frame.Goals as goal
 
-pub returns-then-stepped-ne2 : goal.returns-then-stepped-ne2
-returns-then-stepped-ne2 c = step_crosses_none _ _ _ _ c.step_checked-stepped.ensures (λ e. omega arith) c.no_column.ensures
+pub first_column-crossed-requires : goal.first_column-crossed-requires
+first_column-crossed-requires c =
+    let frame = c.in_ok-sized.ensures in
+    let far = far_is_card c.args.plan.now c.args.from c.args.goal _ _ (rw frame.bytes at c.in-Over.ensures) in
+    (frame.says.from refl, omega (arith, far, (frame.says.sizes refl).cards))
 
-pub plan_places-places-requires : goal.plan_places-places-requires
-plan_places-places-requires c =
-    let s = c.step_checked-stepped.ensures in
-    let between = step_between_cards _ _ _ _ s _ c.plan_layout-sizes.ensures (omega arith) in
-    (c.ones_table-ones.ensures.counts, between.sizes, between.from, between.far)
+pub returns-in-Over : goal.returns-in-Over
+returns-in-Over c =
+    let frame = c.in_ok-sized.ensures in
+    let stepped = step_answered c.args.plan.now c.args.from c.args.goal (Over c.in-Over.link c.in-Over.far) (sym frame.says.number)
+    (rw frame.bytes at c.in-Over.ensures) in
+    step_crosses_column _ _ _ _ stepped refl (rw frame.bytes at c.first_column-crossed.ensures)
 
-pub returns : goal.returns
-returns c =
-    step_crosses_column _ _ _ _ c.step_checked-stepped.ensures (omega arith) c.plan_places-places.ensures.first
+pub returns-in-Stuck : goal.returns-in-Stuck
+returns-in-Stuck c =
+    let frame = c.in_ok-sized.ensures in
+    let stepped = step_answered c.args.plan.now c.args.from c.args.goal _ (sym frame.says.number) (rw frame.bytes at c.step_between-step.ensures) in
+    step_crosses_none _ _ _ _ stepped (not_over _ c.in-Stuck.is) refl

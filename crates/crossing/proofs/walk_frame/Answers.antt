@@ -1,40 +1,26 @@
 -- A walk with hops has its first two cards in the plan, and the column between them. What holds of a frame on a plan that was read is said
 -- by `walk_counted`. Assumes nothing.
 use native.Mathlib.Omega.{arith}
-use Rattle.crossing.proofs.Answers.{second_met, walk_between_cards, walk_crosses_none, walk_crosses_column}
+use mathlib.Core.Path.{refl, ◌∙◌}
+use Rattle.reader.proofs.Reading.{says_laid_out}
+use Rattle.rack.proofs.RefusalNumbers.{refusal_numbered}
+use Rattle.crossing.proofs.Answers.{walk_cards, walk_crosses_none, walk_crosses_column}
 use Rattle.crossing.proofs.walk_frame.Goals as goal
 
-pub returns-then-walked-eq0 : goal.returns-then-walked-eq0
-returns-then-walked-eq0 c =
-    let w = c.walk_counted-walked.ensures in
-    record {
-      says = walk_crosses_none _ _ _ _ _ _ _ w.says (omega arith) c.no_column.ensures;
-      arrives = w.arrives;
-      full = w.full;
-    }
+pub returns-then-walked-eq0-clause-says : goal.returns-then-walked-eq0-clause-says
+returns-then-walked-eq0-clause-says c = walk_crosses_none _ _ _ _ _ _ _ c.in_ok-walked.ensures.says (omega arith) refl
 
-pub bounds-met-1 : goal.bounds-met-1
-bounds-met-1 c =
-    let w = c.walk_counted-walked.ensures in
-    omega (arith, (second_met _ _ _ _ _ _ _ w.says (λ e. omega arith)).0)
+pub returns-in_err-sized : goal.returns-in_err-sized
+returns-in_err-sized c =
+    let cards = walk_cards _ _ _ _ _ _ _ c.in_ok-walked.ensures.says (λ e. omega arith) in
+    absurd (refusal_numbered _ (c.in_err-sized.ensures.says.number ∙ cards.0))
 
-pub overflow_cast-met : goal.overflow_cast-met
-overflow_cast-met c =
-    let w = c.walk_counted-walked.ensures in
-    let between = walk_between_cards _ _ _ _ _ _ _ w.says _ c.plan_layout-sizes.ensures (λ e. omega arith) in
-    omega (arith, between.far, between.sizes.few)
+pub first_column-crossed-requires : goal.first_column-crossed-requires
+first_column-crossed-requires c =
+    let cards = walk_cards _ _ _ _ _ _ _ c.in_ok-walked.ensures.says (λ e. omega arith) in
+    let sized = says_laid_out _ _ c.in_ok-sized.ensures.says refl in
+    (omega (arith, cards.1, sized.cards), omega (arith, cards.2, sized.cards))
 
-pub plan_places-places-requires : goal.plan_places-places-requires
-plan_places-places-requires c =
-    let w = c.walk_counted-walked.ensures in
-    let between = walk_between_cards _ _ _ _ _ _ _ w.says _ c.plan_layout-sizes.ensures (λ e. omega arith) in
-    (c.ones_table-ones.ensures.counts, between.sizes, between.from, between.far)
-
-pub returns : goal.returns
-returns c =
-    let w = c.walk_counted-walked.ensures in
-    record {
-      says = walk_crosses_column _ _ _ _ _ _ _ w.says (λ e. omega arith) c.plan_places-places.ensures.first;
-      arrives = w.arrives;
-      full = w.full;
-    }
+pub returns-clause-says : goal.returns-clause-says
+returns-clause-says c =
+    walk_crosses_column _ _ _ _ _ _ _ c.in_ok-walked.ensures.says (λ e. omega arith) (rw (c.in_ok-sized.ensures.bytes, c.from.ensures) at c.first_column-crossed.ensures)

@@ -1,30 +1,22 @@
 -- 1 and the reader's refusals come before the record is written; else it has the plan's sizes. The promise follows. Assumes nothing.
+use mathlib.Core.Path.{refl}
 use native.Mathlib.Omega.{arith}
+use Rattle.std.specs.Prelude.{Ok, Err}
+use Rattle.rack.proofs.RefusalNumbers.{refusal_numbered}
+use Rattle.reader.specs.Reading.{sizes_of}
 use Rattle.jolvente.proofs.Answers.{no_room, read_refused, sizes_said}
 use Rattle.jolvente.proofs.PlanPromise.{with_promise}
 use Rattle.jolvente.proofs.jolvente_read_plan.Goals as goal
 
 pub returns-then-record-ne-LENT_RECORD : goal.returns-then-record-ne-LENT_RECORD
-returns-then-record-ne-LENT_RECORD c =
-    let holds = with_promise _ _ _ _ (no_room c.args.plan.now c.args.«record».now (λ e. omega arith)) in
-    record {
-      says = holds.0;
-      promise = holds.1;
-    }
+returns-then-record-ne-LENT_RECORD c = with_promise _ _ _ _ (no_room c.args.plan.now c.args.«record».now (λ e. omega arith))
 
-pub returns-then-sizes-ne0 : goal.returns-then-sizes-ne0
-returns-then-sizes-ne0 c =
-    let holds = with_promise _ _ _ _ (read_refused _ _ c.read_plan-sizes.result (omega arith) c.read_plan-sizes.ensures.says (λ e. omega arith)) in
-    record {
-      says = holds.0;
-      promise = holds.1;
-    }
+pub returns-in-Ok : goal.returns-in-Ok
+returns-in-Ok c =
+    with_promise _ _ _ _ (sizes_said _ _ (sizes_of (Ok c.in-Ok.sized)) (omega arith) c.in-Ok.ensures.says refl _ c.put_record.ensures)
 
-pub returns : goal.returns
-returns c =
-    let holds = with_promise _ _ _ _
-    (sizes_said _ _ c.read_plan-sizes.result (omega arith) c.read_plan-sizes.ensures.says (omega arith) _ c.put_record.ensures) in
-    record {
-      says = holds.0;
-      promise = holds.1;
-    }
+pub returns-in-Err : goal.returns-in-Err
+returns-in-Err c =
+    rw c.number.ensures
+    (with_promise _ _ _ _
+    (read_refused _ _ (sizes_of (Err c.in-Err.refused)) (omega arith) c.in-Err.ensures.says (refusal_numbered c.in-Err.refused)))

@@ -1,69 +1,54 @@
 -- 1 comes first, then 12 and 18; a refused frame leaves all as it was; else the cards met and the record are written. Demand 3 follows. Assumes nothing.
-use mathlib.Core.Path.{refl}
+use mathlib.Core.Path.{◌≡◌, refl}
+use mathlib.Core.Bool.{Bool, true, false}
+use mathlib.Core.Logic.{⊎_elim}
+use mir.Val.{bool_byte}
 use native.Mathlib.Omega.{arith}
+use Rattle.std.specs.Prelude.{Ok, Err}
+use Rattle.rack.specs.Lists.{one}
+use Rattle.rack.proofs.RefusalNumbers.{refusal_numbered}
+use Rattle.forwarder.specs.declared.walk.Tally.{Tally}
+use Rattle.forwarder.specs.Calls.{walked_of}
 use Rattle.jolvente.proofs.WalkArrival.{with_c_arrival}
 use Rattle.jolvente.proofs.WalkAnswer.{no_met_room, no_walk_record, caller_refused, walk_refused, walk_said}
 use Rattle.jolvente.proofs.jolvente_walk.Goals as goal
 
+-- a Boolean as a number
+byte_one : (t : Bool) → bool_byte t ≡ one t
+byte_one true = refl
+byte_one false = refl
+
 pub returns-then-met-ne-LENT_MET_BYTES : goal.returns-then-met-ne-LENT_MET_BYTES
 returns-then-met-ne-LENT_MET_BYTES c =
     let z = c.args in
-    let holds = with_c_arrival _ _ _ _ _ _ _ _ _
-    (no_met_room z.plan.now z.from z.goal z.caller z.met.now z.«record».now (λ e. omega arith)) in
-    record {
-      says = holds.0;
-      arrives = holds.1.0;
-      full = holds.1.1;
-    }
+    with_c_arrival _ _ _ _ _ _ _ _ _
+    (⊎_elim (no_met_room z.plan.now z.from z.goal z.caller z.met.now z.«record».now)
+    (λ h. no_walk_record z.plan.now z.from z.goal z.caller z.met.now z.«record».now h.1) c.then-met-ne-LENT_MET_BYTES.either)
 
-pub returns-then-record-ne-LENT_RECORD : goal.returns-then-record-ne-LENT_RECORD
-returns-then-record-ne-LENT_RECORD c =
+pub returns-in-Err : goal.returns-in-Err
+returns-in-Err c =
     let z = c.args in
-    let holds = with_c_arrival _ _ _ _ _ _ _ _ _
-    (no_walk_record z.plan.now z.from z.goal z.caller z.met.now z.«record».now (λ e. omega arith)) in
-    record {
-      says = holds.0;
-      arrives = holds.1.0;
-      full = holds.1.1;
-    }
+    rw c.number.ensures
+    (with_c_arrival _ _ _ _ _ _ _ _ _
+    (caller_refused z.plan.now z.from z.goal z.caller z.met.now z.«record».now (omega arith) (omega arith) _ c.in-Err.ensures
+    (refusal_numbered c.in-Err.refused)))
 
-pub returns-then-fault-ne0 : goal.returns-then-fault-ne0
-returns-then-fault-ne0 c =
+pub returns-in-Ok : goal.returns-in-Ok
+returns-in-Ok c =
     let z = c.args in
-    let holds = with_c_arrival _ _ _ _ _ _ _ _ _
-    (caller_refused z.plan.now z.from z.goal z.caller z.met.now z.«record».now (omega (arith, c.if-met-ne-LENT_MET_BYTES.false))
-    (omega (arith, c.if-record-ne-LENT_RECORD.false)) _ c.caller_fault-fault.ensures (λ e. omega arith)) in
-    record {
-      says = holds.0;
-      arrives = holds.1.0;
-      full = holds.1.1;
-    }
+    let t : Tally = record { frames = c.number32_at.result; hops = c.number32_at-2.result } in
+    with_c_arrival _ _ _ _ _ _ _ _ _
+    (walk_said z.plan.now z.from z.goal z.caller z.met.now z.«record».now (omega arith) (omega arith) 0 c.in_default.ensures refl
+    _ c.number32_at.ensures c.number32_at-2.ensures (walked_of t (Ok c.in-Ok.w)) _ _ refl c.in-Ok.ensures.says
+    refl _ _ c.put_cards.ensures (rw (c.from.ensures, byte_one c.in-Ok.w.arrived) at c.put_record.ensures))
 
-pub returns-then-w-ne0 : goal.returns-then-w-ne0
-returns-then-w-ne0 c =
+pub returns-in-Err-walk_counted : goal.returns-in-Err-walk_counted
+returns-in-Err-walk_counted c =
     let z = c.args in
-    let w = c.walk_counted-w in
-    let holds = with_c_arrival _ _ _ _ _ _ _ _ _
-    (walk_refused z.plan.now z.from z.goal z.caller z.met.now z.«record».now (omega (arith, c.if-met-ne-LENT_MET_BYTES.false)) (omega (arith, c.if-record-ne-LENT_RECORD.false))
-    _ c.caller_fault-fault.ensures (omega (arith, c.if-fault-ne0.false))
-    _ c.number32_at.ensures c.number32_at-2.ensures w.result _ _ refl w.ensures.says (λ e. omega arith)) in
-    record {
-      says = holds.0;
-      arrives = holds.1.0;
-      full = holds.1.1;
-    }
-
-pub returns : goal.returns
-returns c =
-    let z = c.args in
-    let w = c.walk_counted-w in
-    let holds = with_c_arrival _ _ _ _ _ _ _ _ _
-    (walk_said z.plan.now z.from z.goal z.caller z.met.now z.«record».now (omega (arith, c.if-met-ne-LENT_MET_BYTES.false)) (omega (arith, c.if-record-ne-LENT_RECORD.false))
-    _ c.caller_fault-fault.ensures (omega (arith, c.if-fault-ne0.false))
-    _ c.number32_at.ensures c.number32_at-2.ensures w.result _ _ refl w.ensures.says
-    (omega (arith, c.if-w-ne0.false)) _ _ c.put_cards.ensures c.put_record.ensures) in
-    record {
-      says = holds.0;
-      arrives = holds.1.0;
-      full = holds.1.1;
-    }
+    let e = c.in-Err-walk_counted.refused in
+    let t : Tally = record { frames = c.number32_at.result; hops = c.number32_at-2.result } in
+    rw c.number-in-Err-walk_counted.ensures
+    (with_c_arrival _ _ _ _ _ _ _ _ _
+    (walk_refused z.plan.now z.from z.goal z.caller z.met.now z.«record».now (omega arith) (omega arith) 0 c.in_default.ensures refl
+    _ c.number32_at.ensures c.number32_at-2.ensures (walked_of t (Err e)) _ _ refl c.in-Err-walk_counted.ensures.says
+    (refusal_numbered e)))

@@ -1,38 +1,41 @@
 -- 1 comes before anything is written; else the plan and the record are written, or made zero. Demands 2 and 3 follow. Assumes nothing.
+use mathlib.Core.Path.{◌≡◌, sym, ap, ◌∙◌}
+use mathlib.Core.Logic.{⊎_elim}
+use Prim.Native.Nat.{ℕ}
 use native.Mathlib.Omega.{arith}
-use Rattle.jolvente.proofs.Answers.{no_plan_room, no_record_room, plan_said}
+use lib.ListN.{length, replicate}
+use Rattle.planner.specs.Answer.{answer_of}
+use Rattle.std.specs.Prelude.{Ok, Err}
+use Rattle.jolvente.specs.Records.{lent_record}
+use Rattle.jolvente.proofs.Answers.{record_zero, no_plan_room, no_record_room, plan_said}
 use Rattle.jolvente.proofs.PlanPromise.{with_found}
 use Rattle.jolvente.proofs.Returned.{returned_fits}
 use Rattle.jolvente.proofs.jolvente_write_plan.Goals as goal
 
 pub returns-then-plan-ne-LENT_PLAN : goal.returns-then-plan-ne-LENT_PLAN
 returns-then-plan-ne-LENT_PLAN c =
-    let holds = with_found _ _ _ _ _ _ (no_plan_room c.args.wiring.now c.args.plan.now c.args.«record».now (λ e. omega arith)) in
-    record {
-      says = holds.0;
-      found = holds.1;
-    }
+    let z = c.args in
+    with_found _ _ _ _ _ _
+    (⊎_elim (no_plan_room z.wiring.now z.plan.now z.«record».now) (λ h. no_record_room z.wiring.now z.plan.now z.«record».now h.1)
+    c.then-plan-ne-LENT_PLAN.either)
 
-pub returns-then-record-ne-LENT_RECORD : goal.returns-then-record-ne-LENT_RECORD
-returns-then-record-ne-LENT_RECORD c =
-    let holds = with_found _ _ _ _ _ _ (no_record_room c.args.wiring.now c.args.plan.now c.args.«record».now (λ e. omega arith)) in
-    record {
-      says = holds.0;
-      found = holds.1;
-    }
+pub returns-in-Ok : goal.returns-in-Ok
+returns-in-Ok c =
+    with_found _ _ _ _ _ _
+    (plan_said _ _ _ _ _ (answer_of (Ok c.in-Ok.length)) (omega arith) (omega arith) c.in-Ok.ensures.says c.put_record.ensures)
 
 pub overflow_mul-result : goal.overflow_mul-result
-overflow_mul-result c = omega (arith, returned_fits _ _ _ _ c.write_plan-answer.ensures.says.answer)
+overflow_mul-result c =
+    omega (arith, c.place.ensures, returned_fits _ _ _ (answer_of (Err c.in-Err.refused)) c.in-Err.ensures.says.answer)
 
 pub overflow_add-result : goal.overflow_add-result
-overflow_add-result c = omega (arith, returned_fits _ _ _ _ c.write_plan-answer.ensures.says.answer)
+overflow_add-result c =
+    omega (arith, c.number.ensures, c.place.ensures, returned_fits _ _ _ (answer_of (Err c.in-Err.refused)) c.in-Err.ensures.says.answer)
 
-pub returns : goal.returns
-returns c =
-    let holds = with_found _ _ _ _ _ _
-    (plan_said _ _ _ _ _ c.write_plan-answer.result (omega arith) (omega arith) c.write_plan-answer.ensures.says
-    c.put_record.ensures) in
-    record {
-      says = holds.0;
-      found = holds.1;
-    }
+pub returns-in-Err : goal.returns-in-Err
+returns-in-Err c =
+    let room : length c.args.«record».now ≡ lent_record = omega arith in
+    let zero = c.fill.ensures.after (λ y e. e) ∙ ap (λ (k : ℕ). replicate k 0) room ∙ sym record_zero in
+    rw (c.number.ensures, c.place.ensures)
+    (with_found _ _ _ _ _ _
+    (plan_said _ _ _ _ _ (answer_of (Err c.in-Err.refused)) (omega arith) (omega arith) c.in-Err.ensures.says zero))

@@ -1,44 +1,61 @@
 -- 1 comes before the plan is looked at; then the plan and its sum decide, its bytes with a card more are the planner's, and the sum rises by n and
 -- by the card's hops. Assumes nothing.
-use mathlib.Core.Path.{sym}
-use native.Mathlib.Omega.{arith}
-use borrow.Author.Rules.{rules}
+use Rattle.std.proofs.Common.{arith}
+use Rattle.std.proofs.lemmas.Result.{err_from_is_err_and}
+use Rattle.rack.specs.declared.refused.Refused.TheVariants.{Lent}
 use Rattle.last_card.proofs.ReadParts.{read_known}
-use Rattle.last_card.proofs.ChangedSums.{hops_few}
 use Rattle.last_card.proofs.Refusals.{add_no_room}
-use Rattle.last_card.proofs.Answers.{changed_refused, add_asks, adding_refused, add_answered}
+use Rattle.last_card.proofs.Answers.{changed_refused, add_not_read, adding_refused, add_inside, add_answered, total_fits, hops_fit}
 use Rattle.last_card.proofs.add_card.Goals as goal
 
-pub returns-then-output-ne-LENT_PLAN : goal.returns-then-output-ne-LENT_PLAN
-returns-then-output-ne-LENT_PLAN c = changed_refused _ _ _ _ 1 (λ e. omega arith) (sym (add_no_room _ _ _ _ (λ e. omega arith))) c.not_changed.ensures
+pub returns-in_default : goal.returns-in_default
+returns-in_default c = changed_refused _ _ _ Lent (add_no_room _ _ _ _ c.in_default.ensures.cases)
 
-pub add_sized-new-requires : goal.add_sized-new-requires
-add_sized-new-requires c = (read_known _ _ _ c.read_with_total-sizes.ensures.says, omega arith)
+pub returns-in_err-read : goal.returns-in_err-read
+returns-in_err-read c =
+    let p = err_from_is_err_and c.from_residual.result c.from_residual.ensures.1 in
+    let lent = c.in-Some.ensures.cases in
+    rw (p.1, p.2, lent.same) (add_not_read c.args.plan.now _ _ c.in_err-read.ensures.says c.args.output.now lent.long _)
 
-pub returns-then-new-ne0 : goal.returns-then-new-ne0
-returns-then-new-ne0 c =
-    adding_refused _ _ _ c.read_with_total-sizes.ensures.says _ _ _ _ c.add_sized-new.ensures (omega arith) (λ e. omega arith) _
-    c.not_changed-then-new-ne0.ensures
+pub add_sized-requires : goal.add_sized-requires
+add_sized-requires c = read_known _ _ _ c.in_ok-read.ensures.says
+
+pub returns-in_err-length : goal.returns-in_err-length
+returns-in_err-length c =
+    let p = err_from_is_err_and c.from_residual-in_err-length.result c.from_residual-in_err-length.ensures.1 in
+    let lent = c.in-Some.ensures.cases in
+    let read = c.in_ok-read.ensures in
+    rw (p.1, p.2)
+    (adding_refused c.args.plan.now _ c.in_ok-read.read read.says c.args.output.now _ lent.long _ _
+    (rw (read.bytes, lent.same) at c.in_err-length.ensures))
 
 pub overflow_add-result : goal.overflow_add-result
 overflow_add-result c =
-    let read = c.read_with_total-sizes.ensures in
-    let asks = add_asks _ _ _ read.says _ _ _ _ c.add_sized-new.ensures (omega arith) read.promise in
-    omega (arith, asks.0, asks.3)
+    let p = c.in_ok-read.read in
+    omega (arith, total_fits _ _ p c.in_ok-read.ensures.says, p.sized.few)
 
 pub hops_from-requires : goal.hops_from-requires
 hops_from-requires c =
-    let read = c.read_with_total-sizes.ensures in
-    let asks = add_asks _ _ _ read.says _ _ _ _ c.add_sized-new.ensures (omega arith) read.promise in
-    (asks.0, asks.1, omega (arith, asks.2))
+    let lent = c.in-Some.ensures.cases in
+    let read = c.in_ok-read.ensures in
+    let inside = add_inside c.args.plan.now _ c.in_ok-read.read read.says c.args.output.now _ lent.long c.args.card _
+    (rw (read.bytes, lent.same) at c.in_ok-length.ensures) in
+    (rw read.bytes read.promise, inside)
 
 pub overflow_add-result-2 : goal.overflow_add-result-2
 overflow_add-result-2 c =
-    let read = c.read_with_total-sizes.ensures in
-    let asks = add_asks _ _ _ read.says _ _ _ _ c.add_sized-new.ensures (omega arith) read.promise in
-    omega (arith, asks.0, asks.3, hops_few _ _ asks.0 _ _ c.hops_from.ensures)
+    let p = c.in_ok-read.read in
+    let read = c.in_ok-read.ensures in
+    omega (
+      arith,
+      total_fits _ _ p read.says,
+      p.sized.few,
+      hops_fit _ _ p read.says _ _ (rw read.bytes at c.hops_from.ensures),
+    )
 
 pub returns : goal.returns
 returns c =
-    add_answered _ _ _ c.read_with_total-sizes.ensures.says _ _ _ _ c.add_sized-new.ensures (omega arith) (omega arith) _
-    c.hops_from.ensures
+    let lent = c.in-Some.ensures.cases in
+    let read = c.in_ok-read.ensures in
+    add_answered c.args.plan.now _ c.in_ok-read.read read.says c.args.output.now _ lent.long c.args.card _
+    (rw (read.bytes, lent.same) at c.in_ok-length.ensures) _ (rw read.bytes at c.hops_from.ensures)

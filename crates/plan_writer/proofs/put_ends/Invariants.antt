@@ -1,12 +1,8 @@
--- The first i ends are appended. Assumes nothing.
-use Prim.Native.Nat.{◌-◌, ◌≤◌}
+-- The first `i` ends are appended. Assumes nothing.
 use Rattle.rack.specs.Lists.{blocks}
 use Rattle.plan_writer.specs.Writing.{end_pair}
 use Rattle.rack.proofs.Appending.{Appended}
 use Rattle.plan_writer.proofs.put_ends.Given as goal
 
 abbrev pub invariant-loop-i : goal.invariant-loop-i
-invariant-loop-i l = (l.i ≤ l.count) × Appended 6 l.initial.output l.output (blocks l.i (end_pair l.file))
-
-abbrev pub decreases-loop-i : goal.decreases-loop-i
-decreases-loop-i l = l.count - l.i
+invariant-loop-i l = Appended 6 l.initial.output l.output (blocks l.i (end_pair l.file.bytes.now))

@@ -1,20 +1,18 @@
--- Each stage refuses with its number, or hands on what the next one needs. Assumes nothing.
+-- Each stage refuses, or hands on what the next one needs. Assumes nothing.
+use Rattle.std.proofs.lemmas.Result.{err_from_is_err_and}
 use Rattle.rack.specs.Limits.{lent_words}
+use Rattle.rack.proofs.Acceptance.{reach_clear}
 use Rattle.rack.proofs.Zeros.{zeros_long}
-use Rattle.planner.proofs.RackPlanned.{reached, unreached_planned}
+use Rattle.planner.proofs.RackPlanned.{unreached_planned}
 use Rattle.planner.proofs.plan_formed.Goals as goal
 
-pub returns-then-f-ne0 : goal.returns-then-f-ne0
-returns-then-f-ne0 c =
-    unreached_planned _ c.reach_refusal-f.result _ _ _ c.reach_refusal-f.ensures.is c.if-f-ne0.true
-    c.refused.ensures (zeros_long lent_words _ c.requires.1) c.reach_refusal-f.ensures.long
+pub returns-in_err-reach_refusal : goal.returns-in_err-reach_refusal
+returns-in_err-reach_refusal c =
+    let p = err_from_is_err_and c.from_residual.result c.from_residual.ensures.1 in
+    rw (p.1, p.2) (unreached_planned _ _ _ _ c.in_err-reach_refusal.ensures (zeros_long lent_words _ c.requires.0) c.reach_refusal.array_long)
 
 pub all_hops-requires : goal.all_hops-requires
-all_hops-requires c =
-    let f = c.reach_refusal-f in
-    (c.requires.0, reached _ f.result f.ensures.is c.if-f-ne0.false, f.ensures.long)
+all_hops-requires c = reach_clear _ c.in_ok-reach_refusal.ensures
 
 pub plan_connected-requires : goal.plan_connected-requires
-plan_connected-requires c =
-    let f = c.reach_refusal-f in
-    (c.requires.0, reached _ f.result f.ensures.is c.if-f-ne0.false, c.all_hops.ensures, c.requires.1)
+plan_connected-requires c = (reach_clear _ c.in_ok-reach_refusal.ensures, c.all_hops.ensures, c.requires.0)

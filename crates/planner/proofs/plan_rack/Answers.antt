@@ -1,58 +1,56 @@
 -- The buffers are zero before the plan and again after a refusal. Assumes nothing.
-use mathlib.Core.Path.{refl, ◌∙◌, ap}
+use mathlib.Core.Path.{refl, ap, ◌∙◌}
 use mathlib.Core.Bool.{and-false}
 use Prim.Native.Nat.{ℕ}
+use native.Mathlib.Omega.{arith}
 use lib.Dec.{eqb}
 use lib.ListN.{length, replicate}
 use borrow.Author.Tests.{ne_eqb}
+use Rattle.rack.specs.Limits.{lent_hops, lent_words}
+use Rattle.std.specs.Prelude.{Err}
+use Rattle.rack.specs.declared.refused.Refused.TheVariants.{Lent}
+use Rattle.planner.specs.Answer.{answer_of}
+use Rattle.planner.specs.Planning.{PlanSays}
+use Rattle.rack.proofs.RefusalNumbers.{refusal_numbered}
 use Rattle.planner.proofs.PlanAnswer.{plan_says_one, plan_says_found, plan_says_refused}
 use Rattle.planner.proofs.PlanPromise.{addresses_found}
-use Rattle.rack.specs.Limits.{lent_hops, lent_words}
+use Rattle.planner.proofs.WriteAnswer.{columns_few}
 use Rattle.planner.proofs.plan_rack.Goals as goal
 
-pub returns-then-words-ne-LENT_WORDS : goal.returns-then-words-ne-LENT_WORDS
-returns-then-words-ne-LENT_WORDS c =
-    let a = c.args in
-    let says = plan_says_one a.file.now _ a.words.now a.hops.now
-    (rw (ne_eqb (length a.words.now) lent_words c.if-words-ne-LENT_WORDS.true) refl) c.refused.ensures in
-    record {
-      says = says;
-      found = λ a. addresses_found _ _ _ _ _ _ a says;
-    }
+pub returns-in_default : goal.returns-in_default
+returns-in_default c =
+    let z = c.args in
+    let says = plan_says_one z.file.now z.words.now z.hops.now (rw (ne_eqb (length z.words.now) lent_words c.in_default.ensures.cases) refl) in
+    record { says = says; found = λ a. addresses_found _ _ _ _ _ _ a says }
 
-pub returns-then-hops-ne-LENT_HOPS : goal.returns-then-hops-ne-LENT_HOPS
-returns-then-hops-ne-LENT_HOPS c =
-    let a = c.args in
-    let says = plan_says_one a.file.now _ a.words.now a.hops.now
-    (rw (ne_eqb (length a.hops.now) lent_hops c.if-hops-ne-LENT_HOPS.true) (and-false (eqb (length a.words.now) lent_words)))
-    c.refused-then-hops-ne-LENT_HOPS.ensures in
-    record {
-      says = says;
-      found = λ a. addresses_found _ _ _ _ _ _ a says;
-    }
+pub returns-in_default-as_mut_array : goal.returns-in_default-as_mut_array
+returns-in_default-as_mut_array c =
+    let z = c.args in
+    let says : PlanSays z.file.now (answer_of (Err Lent)) z.words.now c.in-Some.words.now z.hops.now z.hops.now = rw c.in-Some.ensures.cases.same
+    (plan_says_one z.file.now z.words.now z.hops.now
+    (rw (ne_eqb (length z.hops.now) lent_hops c.in_default-as_mut_array.ensures.cases) (and-false (eqb (length z.words.now) lent_words)))) in
+    record { says = says; found = λ a. addresses_found _ _ _ _ _ _ a says }
 
-pub plan_file-answer-requires : goal.plan_file-answer-requires
-plan_file-answer-requires c = (
-  c.clear_words.ensures ∙ ap (λ (k : ℕ). replicate k 0)
-      c.if-words-ne-LENT_WORDS.false,
-  c.clear_bytes.ensures ∙ ap (λ (k : ℕ). replicate k 0) c.if-hops-ne-LENT_HOPS.false,
-)
+pub plan_file-requires : goal.plan_file-requires
+plan_file-requires c =
+    let words = c.in-Some.ensures.cases in
+    let hops = c.in-Some-as_mut_array.ensures.cases in (
+      c.fill.ensures.after (λ y e. e) ∙ ap (λ (n : ℕ). replicate n 0) (ap length words.same ∙ words.long),
+      c.fill-2.ensures.after (λ y e. e) ∙ ap (λ (n : ℕ). replicate n 0) (ap length hops.same ∙ hops.long),
+    )
 
-pub returns-then-answer-ne0 : goal.returns-then-answer-ne0
-returns-then-answer-ne0 c =
-    let says = plan_says_refused c.args.file.now _ c.args.words.now _ c.args.hops.now _
-    c.if-words-ne-LENT_WORDS.false c.if-hops-ne-LENT_HOPS.false c.plan_file-answer.ensures _ _ c.if-answer-ne0.true
-    c.clear_words-then-answer-ne0.ensures c.clear_bytes-then-answer-ne0.ensures in
-    record {
-      says = says;
-      found = λ a. addresses_found _ _ _ _ _ _ a says;
-    }
+pub overflow_cast-result : goal.overflow_cast-result
+overflow_cast-result c = omega (arith, columns_few _ _ _ _ c.in-Ok.ensures)
 
-pub returns-else-answer-ne0 : goal.returns-else-answer-ne0
-returns-else-answer-ne0 c =
-    let says = plan_says_found c.args.file.now _ c.args.words.now _ c.args.hops.now _
-    c.if-words-ne-LENT_WORDS.false c.if-hops-ne-LENT_HOPS.false c.plan_file-answer.ensures c.if-answer-ne0.false in
-    record {
-      says = says;
-      found = λ a. addresses_found _ _ _ _ _ _ a says;
-    }
+pub returns-in-Ok : goal.returns-in-Ok
+returns-in-Ok c =
+    let z = c.args in
+    let says = plan_says_found z.file.now _ z.words.now _ z.hops.now _ c.in-Some.ensures.cases.long c.in-Some-as_mut_array.ensures.cases.long c.in-Ok.ensures refl in
+    record { says = says; found = λ a. addresses_found _ _ _ _ _ _ a says }
+
+pub returns-in-Err : goal.returns-in-Err
+returns-in-Err c =
+    let z = c.args in
+    let says = plan_says_refused z.file.now _ z.words.now _ z.hops.now _ c.in-Some.ensures.cases.long c.in-Some-as_mut_array.ensures.cases.long
+    c.in-Err.ensures _ _ (refusal_numbered c.in-Err.refused) (c.fill-in-Err.ensures.after (λ y e. e)) (c.fill-in-Err-2.ensures.after (λ y e. e)) in
+    record { says = says; found = λ a. addresses_found _ _ _ _ _ _ a says }

@@ -1,61 +1,52 @@
 -- The bytes written from the words are the plan of the file's wiring. Assumes nothing.
-use mathlib.Core.Path.{refl, ◌∙◌, ap}
+use mathlib.Core.Path.{ap, subst, ◌∙◌}
+use mathlib.Core.List.{List}
 use Prim.Native.Nat.{ℕ}
 use native.Mathlib.Omega.{arith}
-use lib.ListN.{replicate}
-use Rattle.planner.proofs.WriteAnswer.{write_says_one, write_says_refused, written_sizes, columns_few, write_says_found}
+use lib.ListN.{length, replicate}
+use Rattle.std.specs.Prelude.{Ok}
+use Rattle.std.proofs.lemmas.Result.{err_from_is_err_and}
+use Rattle.planner.specs.Answer.{answer_of}
+use Rattle.planner.specs.Planning.{WriteSays}
+use Rattle.planner.proofs.RackPlanned.{sizes_refusal}
+use Rattle.planner.proofs.WriteAnswer.{write_says_one, write_says_refused, planned_refusal, columns_few, write_says_found}
 use Rattle.planner.proofs.WritePromise.{plan_found}
 use Rattle.planner.proofs.write_plan.Goals as goal
 
-pub returns-then-output-ne-LENT_PLAN : goal.returns-then-output-ne-LENT_PLAN
-returns-then-output-ne-LENT_PLAN c =
-    let says = write_says_one c.args.file.now _ c.args.output.now c.if-output-ne-LENT_PLAN.true c.refused.ensures in
-    record {
-      says = says;
-      found = λ a. plan_found _ _ _ _ a says;
-    }
+pub returns-in_default : goal.returns-in_default
+returns-in_default c =
+    let says = write_says_one c.args.file.now c.args.output.now c.in_default.ensures.cases in
+    record { says = says; found = λ a. plan_found _ _ _ _ a says }
 
-pub returns-then-answer-ne0 : goal.returns-then-answer-ne0
-returns-then-answer-ne0 c =
-    let says = write_says_refused c.args.file.now _ _ _ c.args.output.now c.if-output-ne-LENT_PLAN.false
-    c.plan_file-answer.ensures _ c.if-answer-ne0.true c.clear_bytes.ensures in
-    record {
-      says = says;
-      found = λ a. plan_found _ _ _ _ a says;
-    }
+pub returns-in_err-sized : goal.returns-in_err-sized
+returns-in_err-sized c =
+    let p = err_from_is_err_and c.from_residual.result c.from_residual.ensures.1 in
+    let out = c.in-Some.ensures.cases in
+    let zero = c.fill.ensures.after (λ y e. e) ∙ ap (λ (n : ℕ). replicate n 0) (ap length out.same) in
+    let says = write_says_refused c.args.file.now c.args.output.now c.fill.new.self _ out.long (sizes_refusal _ _ c.in_err-sized.ensures.refuses) zero in
+    rw (p.1, p.2) (record { says = says; found = λ a. plan_found _ _ _ _ a says })
 
-pub number_at-n-requires : goal.number_at-n-requires
-number_at-n-requires c =
-    omega (
-      arith,
-      (written_sizes _ _ _ _ c.args.output.now c.if-output-ne-LENT_PLAN.false c.plan_file-answer.ensures
-          c.if-answer-ne0.false _ _ refl refl).long,
+pub returns-in_err-k : goal.returns-in_err-k
+returns-in_err-k c =
+    let p = err_from_is_err_and c.from_residual-in_err-k.result c.from_residual-in_err-k.ensures.1 in
+    let out = c.in-Some.ensures.cases in
+    let zero = c.fill.ensures.after (λ y e. e) ∙ ap (λ (n : ℕ). replicate n 0) (ap length out.same) in
+    let said = rw c.in_ok-sized.ensures.same at (planned_refusal _ _ _ _ c.in_err-k.ensures) in
+    let says = write_says_refused c.args.file.now c.args.output.now c.fill.new.self _ out.long said zero in
+    rw (p.1, p.2) (record { says = says; found = λ a. plan_found _ _ _ _ a says })
+
+pub put_plan-requires : goal.put_plan-requires
+put_plan-requires c =
+    let out = c.in-Some.ensures.cases in (
+      columns_few _ _ _ _ c.in_ok-k.ensures,
+      c.fill.ensures.after (λ y e. e) ∙ ap (λ (n : ℕ). replicate n 0) (ap length out.same ∙ out.long),
     )
-
-pub number_at-m-requires : goal.number_at-m-requires
-number_at-m-requires c =
-    omega (
-      arith,
-      (written_sizes _ _ _ _ c.args.output.now c.if-output-ne-LENT_PLAN.false c.plan_file-answer.ensures
-          c.if-answer-ne0.false _ _ refl refl).long,
-    )
-
-pub put_plan-length-requires : goal.put_plan-length-requires
-put_plan-length-requires c = (
-  written_sizes _ _ _ _ c.args.output.now c.if-output-ne-LENT_PLAN.false c.plan_file-answer.ensures c.if-answer-ne0.false _ _
-      c.number_at-n.ensures.is c.number_at-m.ensures.is,
-  columns_few _ _ _ _ c.args.output.now c.if-output-ne-LENT_PLAN.false c.plan_file-answer.ensures c.if-answer-ne0.false,
-  c.plan_file-answer.ensures.long_words,
-  c.clear_bytes.ensures ∙ ap (λ (k : ℕ). replicate k 0) c.if-output-ne-LENT_PLAN.false,
-)
 
 pub returns : goal.returns
 returns c =
-    let says = write_says_found c.args.file.now _ _ _ c.args.output.now c.if-output-ne-LENT_PLAN.false
-    c.plan_file-answer.ensures c.if-answer-ne0.false _ _
-    (c.put_plan-length.auto.output ∙ c.clear_bytes.auto.bytes)
-    c.put_plan-length.ensures.bytes c.put_plan-length.ensures.long in
-    record {
-      says = says;
-      found = λ a. plan_found _ _ _ _ a says;
-    }
+    let out = c.in-Some.ensures.cases in
+    let z = c.args in
+    let says = subst (λ (bs : List ℕ). WriteSays bs (answer_of (Ok c.put_plan.result)) z.output.now c.put_plan.new.output) c.in_ok-sized.ensures.same
+    (write_says_found _ _ _ _ c.in_ok-k.ensures z.output.now c.put_plan.new.output _ out.long
+    (omega arith) c.put_plan.ensures.bytes c.put_plan.ensures.long) in
+    record { says = says; found = λ a. plan_found _ _ _ _ a says }

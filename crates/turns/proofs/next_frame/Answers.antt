@@ -1,68 +1,55 @@
--- A refusal hands back none of the first frame's bytes; else the frame goes whose caller has had fewer turns, and that count is raised.
+-- Each refusal hands back no frame and counts no turn; else the frame goes whose caller has had fewer turns, and that count is raised.
 -- Assumes nothing.
-use Rattle.std.proofs.Common.{◌≡◌, List, ℕ, refl, sym, ◌∙◌, arith}
-use Rattle.turns.specs.Turns.{choice_refusal}
-use Rattle.turns.proofs.Turning.{Clear, choice_clear, TurnsAre, turns_first, says_refused, says_first, says_second}
+use Rattle.std.proofs.Common.{refl, inl, inr, arith}
+use Rattle.std.proofs.lemmas.Result.{err_from_is_err_and}
+use Rattle.rack.specs.declared.refused.Refused.TheVariants.{NoCaller, Full}
+use Rattle.turns.proofs.Turning.{over_refused, both_fit, full_refused, none_refused, Goes, goes_next, goes_first, goes_second, says_refused, says_short, says_chosen}
 use Rattle.turns.proofs.next_frame.Goals as goal
-use Rattle.turns.proofs.next_frame.Goals.{After-turns_of-y}
+use Rattle.turns.proofs.next_frame.Goals.{then-i-ge-MOST_CALLERS-via-then-i-ge-MOST_CALLERS, then-i-ge-MOST_CALLERS-via-else-i-ge-MOST_CALLERS+then-j-ge-MOST_CALLERS, then-turns-j, else-turns-j}
 
--- what is known of a choice that was not refused
-clear : (first second turns : List ℕ) (n : ℕ) → n ≡ choice_refusal first second turns → n ≡ 0 → Clear first second turns
-clear first second turns n is none = choice_clear first second turns (sym is ∙ none)
+pub returns-in_err-i : goal.returns-in_err-i
+returns-in_err-i c =
+    let p = err_from_is_err_and c.from_residual.result c.from_residual.ensures.1 in
+    let e = c.in_err-i.ensures in
+    says_short _ _ _ (inl e.0) _ (rw (p.1, p.2, e.1) refl)
 
--- and where both callers and their turns have been read
-module _ (c : After-turns_of-y) where
-  chosen : Clear c.args.first.now c.args.second.now c.args.turns.now
-  chosen = clear _ _ _ _ c.choice_refusal-refused.ensures (omega arith)
+pub returns-in_err-j : goal.returns-in_err-j
+returns-in_err-j c =
+    let p = err_from_is_err_and c.from_residual-in_err-j.result c.from_residual-in_err-j.ensures.1 in
+    let e = c.in_err-j.ensures in
+    says_short _ _ _ (inr e.0) _ (rw (p.1, p.2, e.1) refl)
 
-  turns_are :
-      TurnsAre c.args.first.now c.args.second.now c.args.turns.now c.frame_caller-i.result c.frame_caller-j.result
-      c.turns_of-x.result c.turns_of-y.result
-  turns_are =
-      record {
-        caller = c.frame_caller-i.ensures;
-        other = c.frame_caller-j.ensures;
-        turns = c.turns_of-x.ensures;
-        others = c.turns_of-y.ensures;
-      }
+pub returns-then-i-ge-MOST_CALLERS : goal.returns-then-i-ge-MOST_CALLERS
+returns-then-i-ge-MOST_CALLERS c =
+    let i = c.in_ok-i.ensures in
+    let j = c.in_ok-j.ensures in
+    says_refused _ _ _ NoCaller
+    (over_refused _ _ _ i.0 j.0
+    (elim c.then-i-ge-MOST_CALLERS.branch [
+      | then-i-ge-MOST_CALLERS-via-then-i-ge-MOST_CALLERS w ↦ inl (omega (arith, i.2))
+      | then-i-ge-MOST_CALLERS-via-else-i-ge-MOST_CALLERS+then-j-ge-MOST_CALLERS w ↦ inr (omega (arith, j.2))
+    ]))
+    (λ e. omega arith)
 
-pub returns-then-refused-ne0 : goal.returns-then-refused-ne0
-returns-then-refused-ne0 c =
-    says_refused c.args.first c.args.second _ c.choice_refusal-refused.ensures c.if-refused-ne0.true refl refl
-
-pub frame_caller-i-requires : goal.frame_caller-i-requires
-frame_caller-i-requires c = (clear _ _ _ _ c.choice_refusal-refused.ensures (omega arith)).fit.first
-
-pub frame_caller-j-requires : goal.frame_caller-j-requires
-frame_caller-j-requires c = (clear _ _ _ _ c.choice_refusal-refused.ensures (omega arith)).fit.second
-
-pub turns_of-x-requires : goal.turns_of-x-requires
-turns_of-x-requires c =
-    omega (arith, (clear _ _ _ _ c.choice_refusal-refused.ensures (omega arith)).fit.caller, c.frame_caller-i.ensures)
-
-pub turns_of-y-requires : goal.turns_of-y-requires
-turns_of-y-requires c =
-    omega (arith, (clear _ _ _ _ c.choice_refusal-refused.ensures (omega arith)).fit.other, c.frame_caller-j.ensures)
-
-pub bounds-turns-j : goal.bounds-turns-j
-bounds-turns-j c =
-    omega (arith, (clear _ _ _ _ c.choice_refusal-refused.ensures (omega arith)).fit.other, c.frame_caller-j.ensures)
-
-pub returns-then-y-x : goal.returns-then-y-x
-returns-then-y-x c =
-    let p = (goal.at.returns-then-y-x c).After-turns_of-y in
-    says_second _ _ _ c.choice_refusal-refused.ensures (omega arith) (turns_are p) (omega arith)
-
-pub overflow_add-turns-2 : goal.overflow_add-turns-2
-overflow_add-turns-2 c =
-    let p = (goal.at.overflow_add-turns-2 c).After-turns_of-y in
-    omega (arith, (chosen p).room, turns_first _ _ _ (turns_are p) (omega arith))
-
-pub bounds-turns-i : goal.bounds-turns-i
-bounds-turns-i c =
-    omega (arith, (clear _ _ _ _ c.choice_refusal-refused.ensures (omega arith)).fit.caller, c.frame_caller-i.ensures)
+pub returns-then-turns-next : goal.returns-then-turns-next
+returns-then-turns-next c =
+    let i = c.in_ok-i.ensures in
+    let j = c.in_ok-j.ensures in
+    let goes : Goes c.args.first c.args.second c.args.turns.now c.if-turns-j.next.0 c.if-turns-j.next.1 = elim c.if-turns-j.branch [
+      | then-turns-j w ↦ goes_second _ _ _ _ i.2 j.2 (omega arith) w.next-is
+      | else-turns-j w ↦ goes_first _ _ _ _ i.2 j.2 (omega arith) w.next-is
+    ] in
+    says_refused _ _ _ Full
+    (full_refused _ _ _ (both_fit _ _ _ _ i j (omega arith) (omega arith)) (rw (goes_next _ _ _ _ _ goes) (omega arith)))
+    (λ e. omega arith)
 
 pub returns : goal.returns
 returns c =
-    let p = (goal.at.returns c).After-turns_of-y in
-    says_first _ _ _ c.choice_refusal-refused.ensures (omega arith) (turns_are p) (omega arith)
+    let i = c.in_ok-i.ensures in
+    let j = c.in_ok-j.ensures in
+    let goes : Goes c.args.first c.args.second c.args.turns.now c.if-turns-j.next.0 c.if-turns-j.next.1 = elim c.if-turns-j.branch [
+      | then-turns-j w ↦ goes_second _ _ _ _ i.2 j.2 (omega arith) w.next-is
+      | else-turns-j w ↦ goes_first _ _ _ _ i.2 j.2 (omega arith) w.next-is
+    ] in
+    says_chosen _ _ _ _ _ goes
+    (none_refused _ _ _ (both_fit _ _ _ _ i j (omega arith) (omega arith)) (rw (goes_next _ _ _ _ _ goes) (omega (arith, c.fits-turns))))

@@ -12,3 +12,7 @@ returns-clause-tested c = refl
 pub returns-clause-counts : goal.returns-clause-counts
 unfolding number_bit ones_in table_holds
 returns-clause-counts c = holds_counts _ refl
+
+pub invariant_of-result : goal.invariant_of-result
+unfolding number_bit ones_in table_holds
+invariant_of-result c = record { counts = holds_counts _ refl }

@@ -12,7 +12,7 @@ use Rattle.counting.proofs.places.bits_hamming.Goals as goal
 
 pub bytes_hamming-sum-requires : goal.bytes_hamming-sum-requires
 bytes_hamming-sum-requires c =
-    (c.requires.0, omega arith, omega (arith, address_size_is c.args.k), omega (arith, address_size_is c.args.k))
+    (omega arith, omega (arith, address_size_is c.args.k), omega (arith, address_size_is c.args.k))
 
 pub returns-then-address_size-whole : goal.returns-then-address_size-whole
 returns-then-address_size-whole c =

@@ -1,41 +1,45 @@
--- A search of the bits of both addresses that ends at k found none. Assumes nothing.
+-- A search of the bits of both addresses finds the lowest column that differs, if there is one. Assumes nothing.
 use native.Mathlib.Omega.{arith}
-use mathlib.Core.Path.{◌≡◌, refl, ◌∙◌}
+use mathlib.Core.Path.{◌≡◌, refl, sym, ap, ◌∙◌}
 use Rattle.reader.proofs.Addresses.{address_counted}
-use Rattle.crossing.specs.Differing.{plan_differing}
-use Rattle.crossing.proofs.Searching.{differing_from}
-use Rattle.crossing.proofs.Answers.{few_differing, equal_addresses, unlike_addresses}
+use Rattle.rack.specs.PlanFile.{bit_from}
+use Rattle.crossing.specs.Differing.{lowest_differing, plan_differing}
+use Rattle.crossing.specs.Crossing.{some_below}
+use Rattle.crossing.proofs.Searching.{found_some, differing_from}
+use Rattle.crossing.proofs.Answers.{below_some, differing_column}
 use Rattle.crossing.proofs.places.first_column.Goals as goal
-use Rattle.crossing.proofs.places.first_column.Goals.{After-first_bit-j}
+use Rattle.crossing.proofs.places.first_column.Goals.{After-lowest_differing}
 
--- where the search ended
-ended : (c : After-first_bit-j) → let z = c.args in c.first_bit-j.result ≡ plan_differing z.plan.now z.a z.b
-ended c =
-    let ps = c.args.plan.now in
-    let z = c.requires.0 in
-    c.first_bit-j.ensures
-    ∙ differing_from ps _ _ c.args.a c.args.b c.args.sizes.columns z.columns
-    (address_counted ps c.args.sizes z c.args.a _ _ c.requires.1 refl c.card_start.ensures).0
-    (address_counted ps c.args.sizes z c.args.b _ _ c.requires.2 refl c.card_start-2.ensures).0
-
-pub first_bit-j-requires : goal.first_bit-j-requires
-first_bit-j-requires c =
-    let ps = c.args.plan.now in
-    let z = c.requires.0 in (
-      z.few_columns,
-      (address_counted ps c.args.sizes z c.args.a _ _ c.requires.1 refl c.card_start.ensures).1,
-      (address_counted ps c.args.sizes z c.args.b _ _ c.requires.2 refl c.card_start-2.ensures).1,
+pub lowest_differing-requires : goal.lowest_differing-requires
+lowest_differing-requires c =
+    let p = c.args.plan in (
+      p.sized.few_columns,
+      (address_counted p.bytes.now p.sized c.args.a _ _ c.requires.0 refl c.address_start-first.ensures.is).1,
+      (address_counted p.bytes.now p.sized c.args.b _ _ c.requires.1 refl c.address_start-second.ensures.is).1,
     )
 
-pub returns-then-j-k : goal.returns-then-j-k
-returns-then-j-k c =
-    equal_addresses _ _ _ _ _ _ (ended (goal.at.returns-then-j-k c).After-first_bit-j) c.requires.0.columns (omega arith) c.no_column.ensures
+-- how the search ended
+ended : (c : After-lowest_differing) → let p = c.args.plan in c.lowest_differing.result ≡ some_below p.columns (plan_differing p.bytes.now c.args.a c.args.b)
+unfolding lowest_differing
+ended c =
+    let p = c.args.plan in
+    found_some p.columns (lowest_differing p.columns (bit_from p.bytes.now c.address_start-first.result) (bit_from p.bytes.now c.address_start-second.result)) _ c.lowest_differing.ensures
+    ∙ ap (some_below p.columns) (differing_from p.bytes.now _ _ c.args.a c.args.b p.columns p.sized.columns
+    (address_counted p.bytes.now p.sized c.args.a _ _ c.requires.0 refl c.address_start-first.ensures.is).0
+    (address_counted p.bytes.now p.sized c.args.b _ _ c.requires.1 refl c.address_start-second.ensures.is).0)
+
+pub returns-in_err-j : goal.returns-in_err-j
+returns-in_err-j c =
+    let p = c.args.plan in
+    rw c.from_residual.ensures
+    (differing_column p.bytes.now c.args.a c.args.b p.columns _ p.sized.columns (sym c.in_err-j.was ∙ ended (goal.at.returns-in_err-j c).After-lowest_differing))
 
 pub overflow_cast-result : goal.overflow_cast-result
 overflow_cast-result c =
-    let few = few_differing c.args.plan.now c.args.a c.args.b in
-    omega (arith, ended (goal.at.overflow_cast-result c).After-first_bit-j, few, c.requires.0.columns, c.requires.0.few_columns)
+    let p = c.args.plan in
+    omega (arith, p.sized.few_columns, below_some _ _ _ (sym c.in_ok-j.was ∙ ended (goal.at.overflow_cast-result c).After-lowest_differing))
 
 pub returns : goal.returns
 returns c =
-    unlike_addresses _ _ _ _ _ _ (ended (goal.at.returns c).After-first_bit-j) c.requires.0.columns (λ e. omega arith) refl refl
+    let p = c.args.plan in
+    differing_column p.bytes.now c.args.a c.args.b p.columns _ p.sized.columns (sym c.in_ok-j.was ∙ ended (goal.at.returns c).After-lowest_differing)

@@ -1,16 +1,19 @@
 -- Stuck changes no count; an arrived frame raises both, or is refused where one would pass its limit. Assumes nothing.
 use native.Mathlib.Omega.{arith}
-use Rattle.forwarder.proofs.Answers.{counted_stuck, counted_arrived, counted_full_frames, counted_full_hops}
+use Rattle.forwarder.proofs.Answers.{counted_stuck, counted_arrived, counted_full}
 use Rattle.forwarder.proofs.walk.counted.Goals as goal
+use Rattle.forwarder.proofs.walk.counted.Goals.{then-tally-eq-MOST_TRAFFIC-via-then-tally-eq-MOST_TRAFFIC, then-tally-eq-MOST_TRAFFIC-via-else-tally-eq-MOST_TRAFFIC+then-tally-hops}
 
-pub returns-then-arrived-eq0 : goal.returns-then-arrived-eq0
-returns-then-arrived-eq0 c = counted_stuck _ _ _ (omega arith)
+pub returns-then-not-arrived : goal.returns-then-not-arrived
+returns-then-not-arrived c = rw c.if-not-arrived.true (counted_stuck _ _)
 
 pub returns-then-tally-eq-MOST_TRAFFIC : goal.returns-then-tally-eq-MOST_TRAFFIC
-returns-then-tally-eq-MOST_TRAFFIC c = counted_full_frames _ _ _ _ (λ e. omega arith) (omega arith) c.not_walked.ensures
-
-pub returns-then-tally-hops : goal.returns-then-tally-hops
-returns-then-tally-hops c = counted_full_hops _ _ _ _ (λ e. omega arith) (omega arith) c.not_walked-then-tally-hops.ensures
+returns-then-tally-eq-MOST_TRAFFIC c =
+    rw c.if-not-arrived.false (counted_full _ _ (λ can.
+    elim c.then-tally-eq-MOST_TRAFFIC.branch [
+      | then-tally-eq-MOST_TRAFFIC-via-then-tally-eq-MOST_TRAFFIC w ↦ omega arith
+      | then-tally-eq-MOST_TRAFFIC-via-else-tally-eq-MOST_TRAFFIC+then-tally-hops w ↦ omega arith
+    ]))
 
 pub returns : goal.returns
-returns c = counted_arrived _ _ _ (omega arith) (omega arith) (omega arith)
+returns c = rw c.if-not-arrived.false (counted_arrived _ _ (omega arith, omega arith))

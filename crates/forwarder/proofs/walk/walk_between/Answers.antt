@@ -1,64 +1,49 @@
 -- The loop's invariant: the cards written are those left and the present one, and behind those left stands what is still to be walked.
 -- Each step lessens the differing places, so there is room for its card. Assumes nothing.
 use native.Mathlib.Omega.{arith}
+use mathlib.Core.Path.{refl}
 use Prim.Native.Nat.{◌<◌}
-use Rattle.forwarder.proofs.Routes.{walk_begins, few_steps, room_left, far_is_card, walk_steps, walk_stops}
+use Rattle.std.proofs.Common.{rules}
+use Rattle.forwarder.specs.Forwarding.{step_of}
+use Rattle.forwarder.proofs.Routes.{OnTheWay, walk_begins, room_left, far_is_card, walk_steps, walk_stops, ended_step}
 use Rattle.forwarder.proofs.walk.walk_between.Goals as goal
-use Rattle.forwarder.proofs.walk.walk_between.Goals.{In-loop-s}
+use Rattle.forwarder.proofs.walk.walk_between.Goals.{In-Over}
 
--- a step over a link leaves room for its card
-known : (c : In-loop-s) → let n = c.args.sizes.cards in let l = c.loop-s in (l.taken < 255) × (l.s.far < n) × (n < 257)
-known c =
-    let z = c.requires.1 in
-    let l = c.loop-s in
-    let room = room_left c.args.plan.now c.args.a c.args.b _ _ _ l.invariant c.loop-s-test.true in
-    let card = far_is_card c.args.plan.now c.args.a c.args.b _ _ _ l.invariant c.loop-s-test.true in
-    (omega (arith, z.columns, z.few_columns), omega (arith, z.cards), omega (arith, z.few))
+module _ (c : In-Over) where
+  abbrev Here : Type 0
+  Here = OnTheWay c.args.plan.bytes.now c.args.a c.args.b c.loop-next.met c.loop-next.taken (step_of 2 c.in-Over.link c.in-Over.far)
 
-pub overflow_cast-route : goal.overflow_cast-route
-overflow_cast-route c = omega (arith, c.requires.1.few)
+  here : Here
+  here = rw c.in-Over.is at c.loop-next.invariant
 
-pub step_between-s-requires : goal.step_between-s-requires
-step_between-s-requires c = c.requires
+  -- a step over a link leaves room for its card
+  known : (c.loop-next.taken < 255) × (c.in-Over.far < c.args.plan.cards) × (c.args.plan.cards < 257)
+  known =
+      let p = c.args.plan in
+      let room = room_left p.bytes.now c.args.a c.args.b _ _ _ here refl in
+      let card = far_is_card p.bytes.now c.args.a c.args.b _ _ _ here refl in
+      (omega (arith, p.sized.columns, p.sized.few_columns), omega (arith, p.sized.cards), omega (arith, p.sized.few))
 
-pub loop-s-init : goal.loop-s-init
-loop-s-init c = walk_begins _ _ _ _ c.step_between-s.ensures
+pub loop-next-init : goal.loop-next-init
+loop-next-init c = rw c.requires.2 (walk_begins _ _ _ _ c.step_between-next.ensures)
 
-pub overflow_add-taken : goal.overflow_add-taken
-overflow_add-taken c = omega (arith, known c)
+pub overflow_cast-met-in-Over : goal.overflow_cast-met-in-Over
+overflow_cast-met-in-Over c = omega (arith, known c)
 
-pub overflow_cast-route-in-loop-s : goal.overflow_cast-route-in-loop-s
-overflow_cast-route-in-loop-s c = omega (arith, known c)
+pub bounds-met-taken : goal.bounds-met-taken
+bounds-met-taken c = omega (arith, known (goal.at.bounds-met-taken c).In-Over)
 
-pub offset_bounds-route-taken : goal.offset_bounds-route-taken
-offset_bounds-route-taken c = omega (arith, known c)
+pub step_between-next-requires-in-Over : goal.step_between-next-requires-in-Over
+step_between-next-requires-in-Over c = ((known (goal.at.step_between-next-requires-in-Over c).In-Over).1, c.requires.1)
 
-pub bounds-route-taken : goal.bounds-route-taken
-bounds-route-taken c = omega (arith, known (goal.at.bounds-route-taken c).In-loop-s)
-
-pub overflow_cast-at : goal.overflow_cast-at
-overflow_cast-at c = omega (arith, known (goal.at.overflow_cast-at c).In-loop-s)
-
-pub step_between-s-requires-in-loop-s : goal.step_between-s-requires-in-loop-s
-step_between-s-requires-in-loop-s c =
-    (c.requires.0, c.requires.1, (known (goal.at.step_between-s-requires-in-loop-s c).In-loop-s).1, c.requires.3)
-
-pub loop-s-smaller : goal.loop-s-smaller
-loop-s-smaller c = omega (arith, known (goal.at.loop-s-smaller c).In-loop-s)
-
-pub loop-s-preserved : goal.loop-s-preserved
-loop-s-preserved c =
-    let z = c.requires.1 in
-    walk_steps c.args.plan.now c.args.a c.args.b _ _ _ c.loop-s.invariant
-    c.loop-s-test.true (omega (arith, z.columns, z.few_columns)) _
-    c.step_between-s-in-loop-s.ensures
-
-pub overflow_cast-route-2 : goal.overflow_cast-route-2
-overflow_cast-route-2 c =
-    let z = c.requires.1 in
-    omega (arith, z.columns, z.few_columns, few_steps c.args.plan.now c.args.a c.args.b _ _ _ c.loop-s.invariant)
+pub loop-next-preserved : goal.loop-next-preserved
+loop-next-preserved c =
+    let p = c.args.plan in
+    walk_steps p.bytes.now c.args.a c.args.b _ _ _ (here (goal.at.loop-next-preserved c).In-Over) refl
+    (omega (arith, p.sized.columns, p.sized.few_columns)) _ c.step_between-next-in-Over.ensures
 
 pub returns : goal.returns
 returns c =
-    walk_stops c.args.plan.now c.args.a c.args.b _ _ _ c.loop-s.invariant
-    (λ e. omega arith) (omega (arith, c.requires.1.columns, c.requires.1.few_columns))
+    let p = c.args.plan in
+    let ended = ended_step c.loop-next.next c.eq.result (search rules) c.in_default.not-Over in
+    walk_stops p.bytes.now c.args.a c.args.b _ _ _ c.loop-next.invariant c.eq.result ended.0 ended.1 (omega (arith, p.sized.columns, p.sized.few_columns))

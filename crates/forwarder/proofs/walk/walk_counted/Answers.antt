@@ -1,56 +1,52 @@
 -- Each refusal comes before the lent numbers are written; else they are the cards met, and the answer is the walk's. What holds of a frame on a plan that was read follows. Assumes nothing.
-use native.Mathlib.Omega.{arith}
-use mathlib.Core.Path.{sym, ◌∙◌}
+use mathlib.Core.Path.{refl, sym}
+use Rattle.std.proofs.lemmas.Result.{err_from_is_err_and}
+use Rattle.rack.proofs.RefusalNumbers.{refusal_numbered}
 use Rattle.forwarder.proofs.Answers.{says_no_room, says_no_frame, says_full, says_answered}
 use Rattle.forwarder.proofs.Arrival.{with_arrival}
 use Rattle.forwarder.proofs.walk.walk_counted.Goals as goal
 
-pub returns-then-met-ne-LENT_MET : goal.returns-then-met-ne-LENT_MET
-returns-then-met-ne-LENT_MET c =
-    let holds = with_arrival c.args.plan.now c.args.from c.args.goal c.args.tally c.not_walked.result c.args.met.now c.args.met.now (says_no_room _ _ _ _ _ _ (λ e. omega arith) c.not_walked.ensures) in
+pub returns-in_default : goal.returns-in_default
+returns-in_default c =
+    let z = c.args in
+    let holds = with_arrival z.plan.now z.from z.goal z.tally _ z.met.now z.met.now (says_no_room _ _ _ _ _ c.in_default.ensures.cases) in
     record {
       says = holds.0;
       arrives = holds.1.0;
       full = holds.1.1;
     }
 
-pub returns-then-sizes-ne0 : goal.returns-then-sizes-ne0
-returns-then-sizes-ne0 c =
-    let holds = with_arrival c.args.plan.now c.args.from c.args.goal c.args.tally c.not_walked-then-sizes-ne0.result c.args.met.now c.args.met.now (says_no_frame _ _ _ _ _ _ _ (omega arith) (λ e. omega arith) c.frame_sizes-sizes.ensures.number c.not_walked-then-sizes-ne0.ensures) in
-    record {
+pub returns-in_err-sized : goal.returns-in_err-sized
+returns-in_err-sized c =
+    let z = c.args in
+    let p = err_from_is_err_and c.from_residual.result c.from_residual.ensures.1 in
+    let holds = with_arrival z.plan.now z.from z.goal z.tally _ z.met.now z.met.now
+    (says_no_frame _ _ _ _ _ _ c.in-Some.ensures.cases.long c.in_err-sized.ensures.says.number) in
+    rw (p.1, p.2, c.in-Some.ensures.cases.same) (record {
       says = holds.0;
       arrives = holds.1.0;
       full = holds.1.1;
-    }
+    })
 
-pub walk_between-requires : goal.walk_between-requires
-walk_between-requires c =
-    let s = c.frame_sizes-sizes in
-    (c.ones_table-ones.ensures.counts, s.ensures.sizes (omega arith), s.ensures.from (omega arith), s.ensures.goal (omega arith))
-
-pub returns-then-answer-ne0 : goal.returns-then-answer-ne0
-returns-then-answer-ne0 c =
-    let holds = with_arrival c.args.plan.now c.args.from c.args.goal c.args.tally c.counted-answer.result c.args.met.now c.args.met.now
-    (says_full _ _ _ _ _ c.walk_between.new.route _ (omega (arith, c.if-met-ne-LENT_MET.false))
-    (sym c.frame_sizes-sizes.ensures.number ∙ omega (arith, c.if-sizes-ne0.false))
-    c.walk_between.ensures c.counted-answer.ensures (λ e. omega (arith, c.if-answer-ne0.true))) in
-    record {
+pub returns-in_err-walked : goal.returns-in_err-walked
+returns-in_err-walked c =
+    let z = c.args in
+    let p = err_from_is_err_and c.from_residual-in_err-walked.result c.from_residual-in_err-walked.ensures.1 in
+    let holds = with_arrival z.plan.now z.from z.goal z.tally _ z.met.now z.met.now
+    (says_full _ _ _ _ _ _ _ _ c.in-Some.ensures.cases.long (sym c.in_ok-sized.ensures.says.number)
+    (rw c.in_ok-sized.ensures.bytes at c.walk_between-route.ensures) c.in_err-walked.ensures (refusal_numbered _)) in
+    rw (p.1, p.2, c.in-Some.ensures.cases.same) (record {
       says = holds.0;
       arrives = holds.1.0;
       full = holds.1.1;
-    }
-
-pub copy_cards-requires : goal.copy_cards-requires
-copy_cards-requires c =
-    (c.walk_between.ensures.room, omega (arith, c.if-met-ne-LENT_MET.false))
+    })
 
 pub returns : goal.returns
 returns c =
-    let holds = with_arrival c.args.plan.now c.args.from c.args.goal c.args.tally c.counted-answer.result c.args.met.now c.copy_cards.new.met
-    (says_answered _ _ _ _ _ c.walk_between.new.route _ (omega (arith, c.if-met-ne-LENT_MET.false))
-    (sym c.frame_sizes-sizes.ensures.number ∙ omega (arith, c.if-sizes-ne0.false))
-    c.walk_between.ensures c.counted-answer.ensures _ (omega (arith, c.if-answer-ne0.false))
-    c.copy_cards.ensures) in
+    let z = c.args in
+    let holds = with_arrival z.plan.now z.from z.goal z.tally _ z.met.now c.walk_between-route.new.met
+    (says_answered _ _ _ _ _ _ _ _ c.in-Some.ensures.cases.long (sym c.in_ok-sized.ensures.says.number)
+    (rw c.in_ok-sized.ensures.bytes at c.walk_between-route.ensures) c.in_ok-walked.ensures _ refl refl) in
     record {
       says = holds.0;
       arrives = holds.1.0;

@@ -4,28 +4,28 @@ use native.Mathlib.Omega.{arith}
 use lib.ListN.{length}
 use Rattle.planner.specs.Words.{word_bit}
 use Rattle.listing_text.specs.Listing.{dash}
-use Rattle.text.proofs.Putting.{puts_as}
+use Rattle.text.proofs.Putting.{grows_as}
 use Rattle.listing_text.proofs.CardLines.{address_none, address_columns, length_columns}
 use Rattle.listing_text.proofs.lines.put_address.Goals as goal
 
 pub put_byte-requires : goal.put_byte-requires
 unfolding dash
 put_byte-requires c =
-    let row = word_bit c.args.words.now c.args.c in
-    omega (arith, c.requires.3, ap length (address_none c.args.k row c.if-k-eq0.true))
+    let row = word_bit c.args.rack.words.now c.args.c in
+    omega (arith, c.requires.1, ap length (address_none c.args.rack.columns row c.if-rack-eq0.true))
 
-pub returns-then-k-eq0 : goal.returns-then-k-eq0
+pub returns-then-rack-eq0 : goal.returns-then-rack-eq0
 unfolding dash
-returns-then-k-eq0 c =
-    let a = c.args in
-    puts_as (sym (address_none a.k (word_bit a.words.now a.c) c.if-k-eq0.true)) c.put_byte.ensures
+returns-then-rack-eq0 c =
+    let row = word_bit c.args.rack.words.now c.args.c in
+    grows_as (sym (address_none c.args.rack.columns row c.if-rack-eq0.true)) c.put_byte.ensures
 
 pub put_columns-requires : goal.put_columns-requires
 put_columns-requires c =
-    let row = word_bit c.args.words.now c.args.c in
-    (c.requires.0, c.requires.1, c.requires.2, omega (arith, c.requires.3, length_columns c.args.k row c.if-k-eq0.false))
+    let row = word_bit c.args.rack.words.now c.args.c in
+    (c.requires.0, omega (arith, c.requires.1, length_columns c.args.rack.columns row c.if-rack-eq0.false))
 
-pub returns : goal.returns
-returns c =
-    let a = c.args in
-    puts_as (sym (address_columns a.k (word_bit a.words.now a.c) c.if-k-eq0.false)) c.put_columns.ensures
+pub returns-else-rack-eq0 : goal.returns-else-rack-eq0
+returns-else-rack-eq0 c =
+    let row = word_bit c.args.rack.words.now c.args.c in
+    grows_as (sym (address_columns c.args.rack.columns row c.if-rack-eq0.false)) c.put_columns.ensures

@@ -1,43 +1,30 @@
--- The tests in their order. Assumes nothing.
+-- The variants. Assumes nothing.
 use mathlib.Core.Path.{sym, ap}
 use native.Mathlib.Omega.{arith}
 use lib.ListN.{length}
 use Rattle.listing_text.specs.Listing.{at_link, at_card}
-use Rattle.text.proofs.Putting.{puts_none, puts_as}
-use Rattle.listing_text.proofs.Refused.{place_link, place_card, place_none}
+use Rattle.text.proofs.Putting.{grows_none, grows_as}
+use Rattle.listing_text.proofs.Refused.{link_named, card_named, none_named}
 use Rattle.listing_text.proofs.lines.put_place.Goals as goal
 
+pub put_word_number-requires-in-NoEnd : goal.put_word_number-requires-in-NoEnd
+unfolding at_link
+put_word_number-requires-in-NoEnd c = omega (arith, c.requires, ap length (link_named c.args.refused _ c.in-NoEnd.is))
+
+pub returns-in-NoEnd : goal.returns-in-NoEnd
+unfolding at_link
+returns-in-NoEnd c = grows_as (sym (link_named c.args.refused _ c.in-NoEnd.is)) c.put_word_number-in-NoEnd.ensures
+
 pub put_word_number-requires : goal.put_word_number-requires
-unfolding at_link
-put_word_number-requires c =
-    let e = place_link c.args.number c.args.place _ c.names_link.ensures c.if-names_link.true in
-    omega (arith, c.requires, ap length e)
-
-pub returns-then-names_link : goal.returns-then-names_link
-unfolding at_link
-returns-then-names_link c =
-    let a = c.args in
-    puts_as (sym (place_link a.number a.place _ c.names_link.ensures c.if-names_link.true))
-    c.put_word_number.ensures
-
-pub put_word_number-requires-then-number-eq9 : goal.put_word_number-requires-then-number-eq9
 unfolding at_card
-put_word_number-requires-then-number-eq9 c =
-    let e =
-    place_card c.args.number c.args.place _ c.names_link.ensures c.if-names_link.false c.if-number-eq9.true
-    in
-    omega (arith, c.requires, ap length e)
+put_word_number-requires c = omega (arith, c.requires, ap length (card_named c.args.refused _ c.in-Unreached.is))
 
-pub returns-then-number-eq9 : goal.returns-then-number-eq9
+pub returns-in-Unreached : goal.returns-in-Unreached
 unfolding at_card
-returns-then-number-eq9 c =
-    let a = c.args in
-    puts_as
-    (sym (place_card a.number a.place _ c.names_link.ensures c.if-names_link.false c.if-number-eq9.true))
-    c.put_word_number-then-number-eq9.ensures
+returns-in-Unreached c = grows_as (sym (card_named c.args.refused _ c.in-Unreached.is)) c.put_word_number.ensures
 
-pub returns : goal.returns
-returns c =
-    let a = c.args in
-    puts_as (sym (place_none a.number a.place _ c.names_link.ensures c.if-names_link.false c.if-number-eq9.false))
-    (puts_none a.at a.text.now)
+pub returns-in_default : goal.returns-in_default
+returns-in_default c =
+    let d = c.in_default in
+    let e = none_named c.args.refused d.not-NoEnd d.not-OneCard d.not-Parallel d.not-Unreached d.not-OddLoop in
+    grows_as (sym e) (grows_none c.args.text.now)

@@ -1,25 +1,18 @@
--- The words before i are full. Assumes nothing.
+-- All words agree, or one does not. Assumes nothing.
+use mathlib.Core.Path.{◌≡◌, refl, ◌∙◌}
+use mathlib.Core.Bool.{true, false}
+use Prim.Native.Nat.{◌*◌}
 use native.Mathlib.Omega.{arith}
-use borrow.Author.Count.{below_more}
-use Rattle.plan_cover.proofs.SetLoops.{words_agree, word_differs}
+use Rattle.std.proofs.Common.{rules, tests}
+use Rattle.std.proofs.lemmas.Iterator.{cases_from_all, YieldsList-from_range}
+use Rattle.plan_tests.proofs.Alls.{all_numbers}
+use Rattle.plan_cover.proofs.SetLoops.{agrees, words_exactly}
 use Rattle.plan_cover.proofs.cover.words_full.Goals as goal
-
-pub loop-i-init : goal.loop-i-init
-loop-i-init c = (omega arith, λ x h. absurd (omega arith))
-
-pub bounds-cover-i : goal.bounds-cover-i
-bounds-cover-i c = omega (arith, c.requires)
-
-pub returns-then-cover-i : goal.returns-then-cover-i
-returns-then-cover-i c =
-    let a = c.args in
-    let l = c.loop-i in
-    word_differs a.n a.full.now a.cover.now c.requires.2 l.i (omega arith) c.if-cover-i.true
-
-pub loop-i-preserved : goal.loop-i-preserved
-loop-i-preserved c = (omega arith, below_more _ _ c.loop-i.invariant.1 c.if-cover-i.false)
 
 pub returns : goal.returns
 returns c =
     let a = c.args in
-    words_agree a.n a.full.now a.cover.now c.requires.2 (λ x h. c.loop-i.invariant.1 x (omega arith))
+    let p = agrees a.n a.full.now a.cover.now c.requires.1 in
+    all_numbers (4 * a.n) p _ (cases_from_all _ _ _ (λ x. p x ≡ true) (λ x. p x ≡ false) c.all.ensures.ran (YieldsList-from_range 0 (4 * a.n) (4 * a.n) refl (omega arith))
+    (λ x q k. search (rules, tests)) (λ x q k. search (rules, tests)))
+    ∙ words_exactly a.n a.full.now a.cover.now c.requires.1

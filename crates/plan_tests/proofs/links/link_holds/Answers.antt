@@ -1,69 +1,71 @@
--- Each return stands where the tests before it passed; the marks of the link's ends tell whether it is a third one. Assumes nothing.
-use mathlib.Core.Path.{◌≡◌, refl, sym, ap, ◌∙◌}
-use Prim.Native.Nat.{ℕ, ◌<◌}
-use native.Mathlib.Omega.{arith}
+-- Each test that fails tells a fault; the marks of the link's ends tell whether it is a third one. Assumes nothing.
+use mathlib.Core.Path.{◌≡◌, sym, ◌∙◌}
+use mathlib.Core.Bool.{Bool, true, false}
 use mathlib.Core.List.{List}
+use Prim.Native.Nat.{ℕ, ◌+◌, ◌<◌}
+use native.Mathlib.Omega.{arith}
 use lib.Dec.{eqb}
+use borrow.Author.Tests.{ne_eqb}
 use Rattle.rack.specs.Wiring.{link_count}
-use Rattle.rack.specs.PlanFile.{plan_cards, plan_links, plan_wiring}
-use Rattle.rack.proofs.Logic.{true_not_false}
+use Rattle.rack.specs.PlanFile.{Sized, plan_wiring}
 use Rattle.rack.proofs.WiringFile.{wiring_at_cards, wiring_at_count}
 use Rattle.rack.proofs.LinkFaults.{fault_first, fault_second, fault_same_card}
+use Rattle.rack.specs.Refusals.{link_fault}
+use Rattle.plan_tests.specs.Marks.{LinksMarked}
 use Rattle.plan_tests.proofs.Marks.{first_free, second_free}
 use Rattle.plan_tests.proofs.links.link_holds.Goals as goal
+use Rattle.plan_tests.proofs.links.link_holds.Goals.{then-plan-p-via-then-plan-p, then-plan-p-via-else-plan-p+then-plan-q, then-plan-p-via-else-plan-p+else-plan-q+then-p-q, Then-set_mark, After-set_mark-else-set_mark}
 
--- the cards and links of the wiring inside
-cards : (plan : List ℕ) (n : ℕ) → n ≡ plan_cards plan → (plan_wiring plan).cards ≡ n
-cards plan n e = wiring_at_cards 6 plan ∙ sym e
+module _ (ps : List ℕ) (n m k : ℕ) (z : Sized ps n m k) where
+  -- the cards and links of the wiring inside
+  cards : (plan_wiring ps).cards ≡ n
+  cards = wiring_at_cards 6 ps ∙ sym z.cards
 
-inside : (plan : List ℕ) (m i : ℕ) → m ≡ plan_links plan → i < m → i < link_count (plan_wiring plan)
-inside plan m i e h = omega (arith, wiring_at_count 6 plan, e, h)
+  inside : (i : ℕ) → i < m → i < link_count (plan_wiring ps)
+  inside i h = omega (arith, wiring_at_count 6 ps, z.links, h)
 
-pub returns-then-n-p : goal.returns-then-n-p
-returns-then-n-p c =
-    let p = c.first_end-p in
-    let q = c.second_end-q in
-    record {
-      is = sym (ap (λ (x : ℕ). eqb x 0) (fault_first _ _ _ _ p.ensures.is q.ensures.is (omega (arith, cards c.args.plan.now c.args.n c.requires.0.cards, c.if-n-p.true))));
-      marks = λ e. true_not_false _ e refl;
-    }
+pub returns-then-plan-p-clause-is : goal.returns-then-plan-p-clause-is
+returns-then-plan-p-clause-is c =
+    let p = c.first_end-p.ensures.is in
+    let q = c.second_end-q.ensures.is in
+    let few = cards _ _ _ _ c.args.plan.sized in
+    let inner = plan_wiring c.args.plan.bytes.now in
+    let none : (n : ℕ) → link_fault inner c.args.i ≡ n + 1 → false ≡ eqb (link_fault inner c.args.i) 0 = λ n e. sym (ne_eqb _ 0 (λ f. omega arith)) in
+    elim c.then-plan-p.branch [
+      | then-plan-p-via-then-plan-p w ↦ none 5 (fault_first inner c.args.i _ _ p q (omega (arith, few, w.if-plan-p.true)))
+      | then-plan-p-via-else-plan-p+then-plan-q w ↦ none 5 (fault_second inner c.args.i _ _ p q (omega (arith, few, w.if-plan-q.true)))
+      | then-plan-p-via-else-plan-p+else-plan-q+then-p-q w ↦
+          none 6 (fault_same_card inner c.args.i _ _ p q (omega (arith, few, w.if-plan-p.false)) (omega (arith, few, w.if-plan-q.false)) w.if-p-q.true)
+    ]
 
-pub returns-then-n-q : goal.returns-then-n-q
-returns-then-n-q c =
-    let p = c.first_end-p in
-    let q = c.second_end-q in
-    record {
-      is = sym (ap (λ (x : ℕ). eqb x 0) (fault_second _ _ _ _ p.ensures.is q.ensures.is (omega (arith, cards c.args.plan.now c.args.n c.requires.0.cards, c.if-n-q.true))));
-      marks = λ e. true_not_false _ e refl;
-    }
+-- where a mark of the ends was free, and where the first was set
+abbrev Holds : (ps : List ℕ) (i : ℕ) (r : Bool) (new : List ℕ) → Type 0
+Holds ps i r new = let w = plan_wiring ps in (r ≡ eqb (link_fault w i) 0) × (r ≡ true → LinksMarked w (i + 1) new)
 
-pub returns-then-p-q : goal.returns-then-p-q
-returns-then-p-q c =
-    let p = c.first_end-p in
-    let q = c.second_end-q in
-    record {
-      is = sym (ap (λ (x : ℕ). eqb x 0)
-          (fault_same_card _ _ _ _ p.ensures.is q.ensures.is (omega (arith, cards c.args.plan.now c.args.n c.requires.0.cards)) (omega (arith, cards c.args.plan.now c.args.n c.requires.0.cards)) c.if-p-q.true));
-      marks = λ e. true_not_false _ e refl;
-    }
+free : (c : Then-set_mark) → Holds c.args.plan.bytes.now c.args.i c.set_mark.result c.set_mark.new.marks
+free c =
+    let few = cards _ _ _ _ c.args.plan.sized in
+    let many = c.args.plan.sized.few in
+    rw c.if-set_mark.true (first_free _ c.args.i c.first_end-p.result c.second_end-q.result c.first_end-p.ensures.is c.second_end-q.ensures.is
+    (omega arith) (omega arith) c.if-p-q.false _ c.requires.1 (inside _ _ _ _ c.args.plan.sized c.args.i c.requires.0) (omega arith) (omega arith) _
+    (rw c.if-set_mark.true at c.set_mark.ensures))
 
-pub returns-then-set_mark : goal.returns-then-set_mark
-returns-then-set_mark c =
-    let f = cards c.args.plan.now c.args.n c.requires.0.cards in
-    let holds = first_free _ c.args.i c.first_end-p.result c.second_end-q.result c.first_end-p.ensures.is c.second_end-q.ensures.is
-    (omega arith) (omega arith) c.if-p-q.false _ c.requires.2 (inside c.args.plan.now c.args.m c.args.i c.requires.0.links c.requires.1) (omega arith) (omega arith) _ (rw c.if-set_mark.true at c.set_mark.ensures) in
-    record {
-      is = holds.0;
-      marks = holds.1;
-    }
+taken : (c : After-set_mark-else-set_mark) → Holds c.args.plan.bytes.now c.args.i c.set_mark-else-set_mark.result c.set_mark-else-set_mark.new.marks
+taken c =
+    let few = cards _ _ _ _ c.args.plan.sized in
+    let many = c.args.plan.sized.few in
+    second_free _ c.args.i c.first_end-p.result c.second_end-q.result c.first_end-p.ensures.is c.second_end-q.ensures.is
+    (omega arith) (omega arith) c.if-p-q.false _ c.requires.1 (inside _ _ _ _ c.args.plan.sized c.args.i c.requires.0) (omega arith) (omega arith) _ _
+    (rw c.if-set_mark.false at c.set_mark.ensures) _ c.set_mark-else-set_mark.ensures
 
-pub returns : goal.returns
-returns c =
-    let f = cards c.args.plan.now c.args.n c.requires.0.cards in
-    let holds = second_free _ c.args.i c.first_end-p.result c.second_end-q.result c.first_end-p.ensures.is c.second_end-q.ensures.is
-    (omega arith) (omega arith) c.if-p-q.false _ c.requires.2 (inside c.args.plan.now c.args.m c.args.i c.requires.0.links c.requires.1) (omega arith) (omega arith) _ _
-    (rw c.if-set_mark.false at c.set_mark.ensures) _ c.set_mark-2.ensures in
-    record {
-      is = holds.0;
-      marks = holds.1;
-    }
+pub returns-then-set_mark-clause-is : goal.returns-then-set_mark-clause-is
+returns-then-set_mark-clause-is c = (free c).0
+
+pub returns-then-set_mark-clause-marks : goal.returns-then-set_mark-clause-marks
+returns-then-set_mark-clause-marks c = (free c).1
+
+pub returns-else-set_mark-clause-is : goal.returns-else-set_mark-clause-is
+returns-else-set_mark-clause-is c = (taken c).0
+
+pub returns-else-set_mark-clause-marks : goal.returns-else-set_mark-clause-marks
+returns-else-set_mark-clause-marks c = (taken c).1

@@ -3,10 +3,11 @@ use mathlib.Core.Bool.{false}
 use mathlib.Core.Path.{◌≡◌}
 use mathlib.Core.List.{List}
 use mathlib.Core.Logic.{◌≢◌}
-use Prim.Native.Nat.{ℕ, ◌+◌, ◌*◌, ◌/◌, ◌%◌, ◌^◌}
+use Prim.Native.Nat.{ℕ, ◌+◌, ◌*◌, ◌/◌, ◌%◌, ◌^◌, ◌<◌}
 use native.Mathlib.Omega.{arith}
 use lib.ListN.{get_or}
 use borrow.Author.Tests.{eq-eqb, ne_eqb}
+use Rattle.std.proofs.Common.{rules}
 use Rattle.rack.specs.Bits.{number_bit}
 use Rattle.plan_tests.specs.Marks.{mark_of}
 use Rattle.rack.proofs.Bits.{word_weight}
@@ -18,24 +19,20 @@ free : (marks : List ℕ) (a b : ℕ) → get_or marks (4 * a + b / 64) 0 / 2 ^ 
 unfolding mark_of number_bit
 free marks a b h = ne_eqb _ 1 h
 
-pub returns-then-word-b-eq1 : goal.returns-then-word-b-eq1
+pub returns-then-marks-at-eq1 : goal.returns-then-marks-at-eq1
 unfolding mark_of number_bit
-returns-then-word-b-eq1 c = let a = c.args in mark_there a.marks.now a.a a.b (eq-eqb _ 1 c.if-word-b-eq1.true)
+returns-then-marks-at-eq1 c = let a = c.args in mark_there a.marks.now a.a a.b (eq-eqb _ 1 c.if-marks-at-eq1.true)
 
 pub overflow_add-marks : goal.overflow_add-marks
 overflow_add-marks c =
     let a = c.args in
-    let fits = c.items_fit (4 * a.a + a.b / 64) in
-    let unmarked = free a.marks.now a.a a.b c.if-word-b-eq1.false in
-    omega (
-      arith,
-      word_weight (a.b % 64) (omega arith),
-      mark_fits a.marks.now a.a a.b c.requires.0 c.requires.1 c.requires.2 (omega (arith, fits)) unmarked,
-    )
+    let unmarked = free a.marks.now a.a a.b c.if-marks-at-eq1.false in
+    let fits : get_or a.marks.now (4 * a.a + a.b / 64) 0 < 2 ^ 64 = search rules in
+    omega (arith, word_weight (a.b % 64) (omega arith), mark_fits a.marks.now a.a a.b c.told-marks c.requires.0 c.requires.1 fits unmarked)
 
 pub returns : goal.returns
 returns c =
     let a = c.args in
-    let fits = c.items_fit (4 * a.a + a.b / 64) in
-    let unmarked = free a.marks.now a.a a.b c.if-word-b-eq1.false in
-    rw (word_weight (a.b % 64) (omega arith)) (mark_more a.marks.now a.a a.b c.requires.0 c.requires.1 c.requires.2 (omega (arith, fits)) unmarked)
+    let unmarked = free a.marks.now a.a a.b c.if-marks-at-eq1.false in
+    let fits : get_or a.marks.now (4 * a.a + a.b / 64) 0 < 2 ^ 64 = search rules in
+    rw (word_weight (a.b % 64) (omega arith)) (mark_more a.marks.now a.a a.b c.told-marks c.requires.0 c.requires.1 fits unmarked)

@@ -1,10 +1,6 @@
 -- Invariant: the words of the cards before `c` have their side added at place `k`, and the other words are as at entry. Assumes nothing.
-use Prim.Native.Nat.{◌-◌, ◌≤◌}
 use Rattle.planner.specs.OpenColumns.{ColumnAdded}
 use Rattle.planner.proofs.columns.add_column.Given as goal
 
 abbrev pub invariant-loop-c : goal.invariant-loop-c
-invariant-loop-c l = (l.c ≤ l.n) × ColumnAdded l.hops l.initial.words l.words l.p l.q l.k l.c
-
-abbrev pub decreases-loop-c : goal.decreases-loop-c
-decreases-loop-c l = l.n - l.c
+invariant-loop-c l = ColumnAdded l.hops l.initial.words l.words l.p l.q l.k l.c

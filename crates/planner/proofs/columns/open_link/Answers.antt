@@ -1,8 +1,8 @@
--- Equal words of the ends are no column that separates the ends: then the link's column is added, if there is room. Assumes nothing.
+-- A link whose ends differ opens no column, and another one opens its own where there is room. Assumes nothing.
 use mathlib.Core.Path.{◌≡◌}
 use mathlib.Core.List.{List}
 use Prim.Native.Nat.{ℕ, ◌<◌}
-use borrow.Author.Rules.{rules}
+use Rattle.std.proofs.Common.{rules}
 use Rattle.rack.specs.Formed.{Formed}
 use Rattle.rack.specs.Wiring.{link_at}
 use Rattle.rack.specs.WiringFile.{file_wiring}
@@ -11,28 +11,25 @@ use Rattle.planner.specs.OpenColumns.{ColumnsOpened}
 use Rattle.planner.proofs.LinkColumns.{AtLink, link_separated, link_full, link_free, link_added}
 use Rattle.planner.proofs.columns.open_link.Goals as goal
 
--- what is known of the link where its ends' words are compared
 at_link : {bs h ws : List ℕ} {n m i k p q : ℕ}
-    → Formed bs n m × (i < m) × HopsIn (file_wiring bs) h × (k < n) × ColumnsOpened (file_wiring bs) n i ws k
+    → Formed bs n m → (i < m) × HopsIn (file_wiring bs) h × ColumnsOpened (file_wiring bs) n i ws k
     → p ≡ (link_at (file_wiring bs) i).first → q ≡ (link_at (file_wiring bs) i).second → AtLink bs h ws n m i k p q
-at_link r first second =
-    record { formed = r.0; inside = r.1; hops = r.2; room = r.3; before = r.4; first = first; second = second }
+at_link f r first second = record { formed = f; inside = r.0; hops = r.1; before = r.2; first = first; second = second }
 
 pub returns-then-words_differ : goal.returns-then-words_differ
 returns-then-words_differ c =
-    link_separated (at_link c.requires c.first_end-p.ensures.is c.second_end-q.ensures.is)
-    (c.words_differ.ensures.differ c.if-words_differ.true)
+    link_separated (at_link c.args.file.formed c.requires c.first_end-p.ensures.is c.second_end-q.ensures.is) (c.words_differ.ensures.differ c.if-words_differ.true)
 
-pub returns-then-n-k : goal.returns-then-n-k
-returns-then-n-k c =
-    link_full (at_link c.requires c.first_end-p.ensures.is c.second_end-q.ensures.is)
-    (c.words_differ.ensures.same c.if-words_differ.false) c.if-n-k.true
+pub returns-then-file-k : goal.returns-then-file-k
+returns-then-file-k c =
+    link_full (at_link c.args.file.formed c.requires c.first_end-p.ensures.is c.second_end-q.ensures.is)
+    (c.words_differ.ensures.same c.if-words_differ.false) c.if-file-k.true
 
 pub add_column-requires : goal.add_column-requires
 add_column-requires c =
-    let free = link_free (at_link c.requires c.first_end-p.ensures.is c.second_end-q.ensures.is) in search rules
+    let free = link_free (at_link c.args.file.formed c.requires c.first_end-p.ensures.is c.second_end-q.ensures.is) in search rules
 
 pub returns : goal.returns
 returns c =
-    link_added (at_link c.requires c.first_end-p.ensures.is c.second_end-q.ensures.is)
-    (c.words_differ.ensures.same c.if-words_differ.false) c.if-n-k.false _ c.add_column.ensures
+    link_added (at_link c.args.file.formed c.requires c.first_end-p.ensures.is c.second_end-q.ensures.is)
+    (c.words_differ.ensures.same c.if-words_differ.false) c.if-file-k.false _ c.add_column.ensures

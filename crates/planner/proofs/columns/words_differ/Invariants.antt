@@ -1,11 +1,8 @@
--- Invariant: the words of the two cards before word t are equal. Assumes nothing.
+-- The words before `t` are equal. Assumes nothing.
 use mathlib.Core.Path.{◌≡◌}
-use Prim.Native.Nat.{ℕ, ◌+◌, ◌*◌, ◌-◌, ◌≤◌, ◌<◌}
+use Prim.Native.Nat.{ℕ, ◌+◌, ◌*◌, ◌<◌}
 use lib.ListN.{get_or}
 use Rattle.planner.proofs.columns.words_differ.Given as goal
 
 abbrev pub invariant-loop-t : goal.invariant-loop-t
-invariant-loop-t l = (l.t ≤ 4) × ((u : ℕ) → u < l.t → get_or l.words (4 * l.a + u) 0 ≡ get_or l.words (4 * l.b + u) 0)
-
-abbrev pub decreases-loop-t : goal.decreases-loop-t
-decreases-loop-t l = 4 - l.t
+invariant-loop-t l = (u : ℕ) → u < l.t → get_or l.words (4 * l.a + u) 0 ≡ get_or l.words (4 * l.b + u) 0

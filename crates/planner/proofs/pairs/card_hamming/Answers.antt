@@ -1,11 +1,11 @@
--- The differing places of two cards are those of their four words, added; words that are not used have none. Assumes nothing.
+-- Four words, or one where no card has a bit in the others. Assumes nothing.
 use native.Mathlib.Omega.{arith}
 use Rattle.planner.proofs.AddressWords.{words_hamming_parts, unused_part}
 use Rattle.planner.proofs.pairs.card_hamming.Goals as goal
 
 pub returns-then-used-le1 : goal.returns-then-used-le1
 returns-then-used-le1 c =
-    let unused = unused_part c.args.words.now c.args.used c.requires.2 c.args.a c.args.b in
+    let unused = unused_part c.args.words.now c.args.used c.requires.0 c.args.a c.args.b in
     omega (
       arith,
       words_hamming_parts c.args.words.now c.args.a c.args.b,
@@ -15,5 +15,4 @@ returns-then-used-le1 c =
     )
 
 pub returns : goal.returns
-returns c =
-    omega (arith, words_hamming_parts c.args.words.now c.args.a c.args.b)
+returns c = omega (arith, words_hamming_parts c.args.words.now c.args.a c.args.b)

@@ -1,19 +1,13 @@
 -- Invariants: `measured` is true, and every pair of cards before `a`, and of `a` with a card before `b`, has as many differing places as hops. Assumes nothing.
 use mathlib.Core.Path.{◌≡◌}
 use mathlib.Core.Bool.{true}
-use Prim.Native.Nat.{ℕ, ◌-◌, ◌≤◌, ◌<◌}
+use Prim.Native.Nat.{ℕ, ◌<◌}
 use Rattle.survey.specs.Tables.{cell}
 use Rattle.planner.specs.OpenColumns.{words_hamming, PairsMeasure}
 use Rattle.planner.proofs.pairs.pairs_measure.Given as goal
 
 abbrev pub invariant-loop-b : goal.invariant-loop-b
-invariant-loop-b l = (l.b ≤ l.a) × (l.measured ≡ true) × ((x : ℕ) → x < l.b → words_hamming l.words l.a x ≡ cell l.hops l.a x)
-
-abbrev pub decreases-loop-b : goal.decreases-loop-b
-decreases-loop-b l = l.a - l.b
+invariant-loop-b l = (l.measured ≡ true) × ((x : ℕ) → x < l.b → words_hamming l.words l.a x ≡ cell l.hops l.a x)
 
 abbrev pub invariant-pairs : goal.invariant-pairs
-invariant-pairs l = (l.a ≤ l.n) × (l.measured ≡ true) × PairsMeasure l.words l.hops l.a
-
-abbrev pub decreases-pairs : goal.decreases-pairs
-decreases-pairs l = l.n - l.a
+invariant-pairs l = (l.measured ≡ true) × PairsMeasure l.words l.hops l.a

@@ -1,15 +1,20 @@
 -- The sizes that reading answers are a layout's, and its number comes before 14. Assumes nothing.
-use Rattle.reader.proofs.AddressPart.{read_laid_out, read_refusal}
+use Rattle.std.proofs.lemmas.Result.{err_from_is_err_and}
+use Rattle.reader.proofs.AddressPart.{address_read, address_refused}
 use Rattle.reader.proofs.read.card_address.Goals as goal
 
-pub address_sized-requires : goal.address_sized-requires
-address_sized-requires c = read_laid_out _ 0 _ c.read_plan.ensures.says
+pub returns-in_err-read_plan-clause-refusal : goal.returns-in_err-read_plan-clause-refusal
+returns-in_err-read_plan-clause-refusal c =
+    let p = err_from_is_err_and c.from_residual.result c.from_residual.ensures.1 in
+    rw (p.1, p.2) (address_refused c.args.plan.now c.args.card _ c.in_err-read_plan.ensures.says)
 
 pub returns : goal.returns
 returns c =
-    let e = read_refusal _ c.args.card _ c.read_plan.ensures.says in
-    let holds = rw e at c.address_sized.ensures in
+    let p = c.in_ok-read_plan.field-0 in
+    let read = c.in_ok-read_plan.ensures in
+    let part = rw read.bytes at c.address_in.ensures.part in
+    let holds = address_read c.args.plan.now c.args.plan.ref_ptr c.args.card p read.says _ c.address_in.ensures.refusal part in
     record {
-      part = holds.part;
-      refusal = holds.refusal;
+      part = holds.0;
+      refusal = holds.1;
     }

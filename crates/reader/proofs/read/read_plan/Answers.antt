@@ -1,39 +1,28 @@
 -- 12 comes from the layout, 13 from the content; a plan that passes both is measured. Assumes nothing.
-use mathlib.Core.Path.{sym, ◌∙◌}
-use Rattle.reader.proofs.Reading.{says_layout, says_laid_out}
+use mathlib.Core.Path.{refl, sym}
+use Rattle.std.proofs.lemmas.Result.{err_from_is_err_and}
+use Rattle.reader.proofs.Reading.{says_layout}
+use Rattle.rack.proofs.RefusalNumbers.{refusal_numbered}
 use Rattle.reader.proofs.ReadAnswer.{read_says_layout, read_says_sizes, read_says_content, read_promise}
 use Rattle.reader.proofs.read.read_plan.Goals as goal
 
-pub returns-then-sizes-ne0 : goal.returns-then-sizes-ne0
-returns-then-sizes-ne0 c =
-    let says = read_says_layout c.args.plan.now c.plan_layout-sizes.result c.plan_layout-sizes.ensures c.if-sizes-ne0.true in
-    record {
-      says = says;
-      promise = read_promise _ _ says;
-    }
-
-pub content_holds-requires : goal.content_holds-requires
-content_holds-requires c =
-    let passed = c.if-sizes-ne0.false in (
-      says_layout _ c.plan_layout-sizes.result c.plan_layout-sizes.ensures passed,
-      (says_laid_out _ c.plan_layout-sizes.result c.plan_layout-sizes.ensures passed).links,
-    )
+pub returns-in_err-sized-clause-says : goal.returns-in_err-sized-clause-says
+returns-in_err-sized-clause-says c =
+    let p = err_from_is_err_and c.from_residual.result c.from_residual.ensures.1 in
+    rw (p.1, p.2) (read_says_layout _ _ c.in_err-sized.ensures.says (refusal_numbered _))
 
 pub returns-then-content_holds : goal.returns-then-content_holds
 returns-then-content_holds c =
-    let says = read_says_sizes c.args.plan.now c.plan_layout-sizes.result
-    c.plan_layout-sizes.ensures c.if-sizes-ne0.false (sym c.content_holds.ensures ∙ c.if-content_holds.true) in
+    let layout = c.in_ok-sized.ensures in
+    let says = read_says_sizes c.args.plan.now _ layout.says refl (sym (rw (c.if-content_holds.true, layout.bytes) at c.content_holds.ensures)) in
     record {
       says = says;
-      promise = read_promise _ _ says;
+      bytes = layout.bytes;
+      promise = read_promise _ _ says refl;
     }
 
-pub returns : goal.returns
-returns c =
-    let says = read_says_content c.args.plan.now _
-    (says_layout _ c.plan_layout-sizes.result c.plan_layout-sizes.ensures c.if-sizes-ne0.false)
-    (sym c.content_holds.ensures ∙ c.if-content_holds.false) c.no_sizes.ensures in
-    record {
-      says = says;
-      promise = read_promise _ _ says;
-    }
+pub returns-else-content_holds-clause-says : goal.returns-else-content_holds-clause-says
+returns-else-content_holds-clause-says c =
+    let layout = c.in_ok-sized.ensures in
+    read_says_content c.args.plan.now _ (says_layout _ _ layout.says refl)
+    (sym (rw (c.if-content_holds.false, layout.bytes) at c.content_holds.ensures)) refl

@@ -1,14 +1,6 @@
--- The bounds stay above hops, and once a pass over every link takes nothing off they are hops; each turn that goes on lowers their sum. Assumes nothing.
-use native.Mathlib.Omega.{arith}
+-- Once a pass over every link takes nothing off, the bounds are hops. Assumes nothing.
 use Rattle.survey.proofs.Passes.{passed_hops}
 use Rattle.survey.proofs.hops.settle.Goals as goal
 
-pub loop-off-init : goal.loop-off-init
-loop-off-init c = (c.requires.1, λ e. absurd (omega arith))
-
-pub loop-off-preserved : goal.loop-off-preserved
-loop-off-preserved c =
-    (c.lower_pass-off.ensures.above, passed_hops _ _ _ _ _ _ c.requires.0 c.lower_pass-off.ensures)
-
-pub returns : goal.returns
-returns c = c.loop-off.invariant.1 (omega arith)
+pub returns-then-lower_pass-eq0 : goal.returns-then-lower_pass-eq0
+returns-then-lower_pass-eq0 c = passed_hops _ _ _ _ _ _ c.args.file.formed c.lower_pass.ensures c.if-lower_pass-eq0.true

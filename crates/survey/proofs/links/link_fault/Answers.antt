@@ -1,63 +1,46 @@
--- `links::link_fault` meets its contract: the mark of the link's two cards counts the earlier links that join them, and a link that passes raises it both ways. Assumes nothing.
-use Rattle.survey.proofs.Forms.{cards_are, links_are}
-use Rattle.survey.proofs.Marks.{fault_first, fault_second, fault_same_card, fault_parallel, fault_none, more_marked}
-use mathlib.Core.Path.{sym}
+-- Each return stands where the tests before it passed, and these are the tests of `link_fault` in their order. The marks say how many of the first links join the two cards. Assumes nothing.
+use mathlib.Core.Path.{ap}
+use mathlib.Core.Logic.{⊎_elim}
+use Prim.Native.Nat.{ℕ}
 use native.Mathlib.Omega.{arith}
-use lib.ListN.{length-set}
+use Rattle.rack.specs.Refusals.{refusal}
+use Rattle.rack.proofs.LinkFaults.{fault_first, fault_second, fault_same_card, fault_parallel, fault_none}
+use Rattle.survey.proofs.Forms.{cards_are, links_are}
+use Rattle.survey.proofs.Marks.{more_marked}
 use Rattle.survey.proofs.links.link_fault.Goals as goal
 
-pub returns-then-n-p : goal.returns-then-n-p
-returns-then-n-p c =
-    let f = cards_are _ _ _ c.requires.0 in
-    record {
-      is = sym (fault_first _ _ _ _ c.first_end-p.ensures.is c.second_end-q.ensures.is
-          (omega arith));
-      marks = λ e. absurd (omega arith);
-    }
+pub returns-then-file-p-clause-refuses : goal.returns-then-file-p-clause-refuses
+returns-then-file-p-clause-refuses c =
+    let f = cards_are _ _ _ c.args.file.sizes in
+    ap (λ (x : ℕ). refusal x c.args.i)
+    (⊎_elim
+    (λ z. fault_first _ _ _ _ c.first_end-p.ensures.is c.second_end-q.ensures.is (omega arith))
+    (λ z. fault_second _ _ _ _ c.first_end-p.ensures.is c.second_end-q.ensures.is (omega arith)) c.then-file-p.either)
 
-pub returns-then-n-q : goal.returns-then-n-q
-returns-then-n-q c =
-    let f = cards_are _ _ _ c.requires.0 in
-    record {
-      is = sym (fault_second _ _ _ _ c.first_end-p.ensures.is c.second_end-q.ensures.is
-          (omega arith));
-      marks = λ e. absurd (omega arith);
-    }
+pub returns-then-p-q-clause-refuses : goal.returns-then-p-q-clause-refuses
+returns-then-p-q-clause-refuses c =
+    let f = cards_are _ _ _ c.args.file.sizes in
+    ap (λ (x : ℕ). refusal x c.args.i)
+    (fault_same_card _ _ _ _ c.first_end-p.ensures.is c.second_end-q.ensures.is (omega arith) (omega arith) c.if-p-q.true)
 
-pub returns-then-p-q : goal.returns-then-p-q
-returns-then-p-q c =
+pub returns-then-earlier-ge-MOST_PARALLEL-clause-refuses : goal.returns-then-earlier-ge-MOST_PARALLEL-clause-refuses
+returns-then-earlier-ge-MOST_PARALLEL-clause-refuses c =
+    let f = cards_are _ _ _ c.args.file.sizes in
     let p = c.first_end-p in
     let q = c.second_end-q in
-    let f = cards_are _ _ _ c.requires.0 in
-    record {
-      is = sym (fault_same_card _ _ _ _ p.ensures.is q.ensures.is (omega arith) (omega arith) c.if-p-q.true);
-      marks = λ e. absurd (omega arith);
-    }
+    let mark = c.requires.1.is p.result q.result (omega (arith, c.args.file.sizes.few)) (omega (arith, c.args.file.sizes.few)) c.if-p-q.false in
+    ap (λ (x : ℕ). refusal x c.args.i)
+    (fault_parallel _ _ _ _ p.ensures.is q.ensures.is (omega arith) (omega arith) c.if-p-q.false (omega arith))
 
-pub returns-then-earlier-ge-MOST_PARALLEL : goal.returns-then-earlier-ge-MOST_PARALLEL
-returns-then-earlier-ge-MOST_PARALLEL c =
+pub returns-clause-refuses : goal.returns-clause-refuses
+returns-clause-refuses c =
+    let f = cards_are _ _ _ c.args.file.sizes in
     let p = c.first_end-p in
     let q = c.second_end-q in
-    let f = cards_are _ _ _ c.requires.0 in
-    let mark = c.requires.2.is p.result q.result (omega arith) (omega arith) c.if-p-q.false in
-    record {
-      is = sym (fault_parallel _ _ _ _ p.ensures.is q.ensures.is (omega arith) (omega arith) c.if-p-q.false
-          (omega arith));
-      marks = λ e. absurd (omega arith);
-    }
+    let mark = c.requires.1.is p.result q.result (omega (arith, c.args.file.sizes.few)) (omega (arith, c.args.file.sizes.few)) c.if-p-q.false in
+    fault_none _ _ _ _ p.ensures.is q.ensures.is (omega arith) (omega arith) c.if-p-q.false (omega arith)
 
-pub bounds-marks-q : goal.bounds-marks-q
-bounds-marks-q c = simp length-set (omega arith)
-
-pub returns : goal.returns
-returns c =
-    let p = c.first_end-p in
-    let q = c.second_end-q in
-    let f = cards_are _ _ _ c.requires.0 in
-    let g = links_are _ _ _ c.requires.0 in
-    let apart = c.if-p-q.false in
-    let mark = c.requires.2.is p.result q.result (omega arith) (omega arith) apart in
-    record {
-      is = sym (fault_none _ _ _ _ p.ensures.is q.ensures.is (omega arith) (omega arith) apart (omega arith));
-      marks = λ e. more_marked _ _ (omega arith) _ _ _ p.ensures.is q.ensures.is (omega arith) (omega arith) apart c.requires.2;
-    }
+pub returns-clause-marks : goal.returns-clause-marks
+returns-clause-marks c =
+    more_marked _ _ (omega (arith, links_are _ _ _ c.args.file.sizes)) _ _ _ c.first_end-p.ensures.is c.second_end-q.ensures.is
+    (omega (arith, c.args.file.sizes.few)) (omega (arith, c.args.file.sizes.few)) c.if-p-q.false c.requires.1

@@ -1,11 +1,7 @@
 -- `reach::spread_pass` meets its contract. The loop's invariant: the flags were spread over the first `i` links, and `moved` of them are new. Assumes nothing.
 use Rattle.survey.specs.Flags.{Spread}
 use Rattle.rack.specs.WiringFile.{file_wiring}
-use Prim.Native.Nat.{◌≤◌, ◌-◌}
 use Rattle.survey.proofs.reach.spread_pass.Given as goal
 
 abbrev pub invariant-loop-i : goal.invariant-loop-i
-invariant-loop-i l = (l.i ≤ l.m) × Spread (file_wiring l.file) l.initial.flags l.flags 0 l.i l.moved
-
-abbrev pub decreases-loop-i : goal.decreases-loop-i
-decreases-loop-i l = l.m - l.i
+invariant-loop-i l = Spread (file_wiring l.file.bytes.now) l.initial.flags l.flags 0 l.i l.moved

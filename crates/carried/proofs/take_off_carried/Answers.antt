@@ -1,6 +1,0 @@
--- The last card taken off, on the bytes that a call sees. Assumes nothing.
-use borrow.Author.Rules.{rules}
-use Rattle.carried.proofs.take_off_carried.Goals as goal
-
-pub returns : goal.returns
-returns c = rw c.carried_bytes.ensures.bytes at c.take_card_off.ensures

@@ -1,0 +1,14 @@
+-- The bytes passed are equal. Assumes nothing.
+use native.Mathlib.Omega.{arith}
+use Rattle.counting.proofs.Searching.{bytes_ended}
+use Rattle.counting.proofs.places.equal_bytes.Goals as goal
+
+pub returns-then-bytes-first : goal.returns-then-bytes-first
+returns-then-bytes-first c =
+    let a = c.args in
+    bytes_ended a.bytes.now a.first a.second a.count c.loop-i.i (omega arith) c.loop-i.invariant (λ h. c.if-bytes-first.true)
+
+pub returns : goal.returns
+returns c =
+    let a = c.args in
+    bytes_ended a.bytes.now a.first a.second a.count a.count (omega arith) (λ j h. c.loop-i.invariant j (omega arith)) (λ h. absurd (omega arith))
