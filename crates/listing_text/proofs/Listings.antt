@@ -23,7 +23,7 @@ use Rattle.rack.proofs.RefusalNumbers.{refusal_numbered}
 use Rattle.rack.proofs.WiringFile.{Sized, wiring_at_cards, wiring_at_count}
 use Rattle.planner.specs.OpenColumns.{bit_in, WordsOf}
 use Rattle.planner.specs.Planning.{AnswerIs, left_in}
-use Rattle.planner.specs.Words.{word_bit}
+use Rattle.rack.specs.Words.{word_bit}
 use Rattle.planner.specs.Answer.{answer_of}
 use Rattle.planner.proofs.AddressWords.{word_bit_column}
 use Rattle.rack.proofs.Appending.{written_none}

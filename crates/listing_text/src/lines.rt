@@ -3,7 +3,7 @@ ghost use Rattle.std.specs.Prelude.{◌≡◌, ◌++◌, ◌+◌, ◌<◌, ◌�
 ghost use Rattle.rack.specs.Limits.{most_cards, most_columns};
 ghost use Rattle.rack.specs.Lists.{tabulate, blocks};
 ghost use Rattle.rack.specs.Refused.{refusal_of};
-ghost use Rattle.planner.specs.Words.{word_bit};
+ghost use Rattle.rack.specs.Words.{word_bit};
 ghost use Rattle.text.specs.Decimals.{decimal};
 ghost use Rattle.text.specs.Putting.{Grows};
 ghost use Rattle.listing_text.specs.Listing.{number_line, size_lines, column_digit, address_text, card_line, rack_lines};

@@ -18,7 +18,7 @@ use Rattle.rack.proofs.Tables.{in_range}
 use Rattle.rack.proofs.Bits.{bits_value_number, bits_value_few, bits_value_ext}
 use Rattle.rack.proofs.Hamming.{hamming_none, hamming_ext, hamming_add, hamming_same, hamming_front}
 use Rattle.rack.proofs.Columns.{hamming_count}
-use Rattle.planner.specs.Words.{word_bit}
+use Rattle.rack.specs.Words.{word_bit}
 use Rattle.planner.specs.OpenColumns.{bit_in, separated, columns_opened, WordsOf, ColumnsOpened, SameWords, WordsUsed, part_hamming, words_hamming}
 
 -- THE FOUR WORDS of two cards

@@ -19,7 +19,7 @@ use Rattle.rack.proofs.Logic.{by_lt}
 use Rattle.rack.proofs.Tables.{length_tabulate, get_or_tabulate, length_blocks, get_or_blocks}
 use Rattle.rack.proofs.Bits.{bits_value_number}
 use Rattle.survey.specs.Tables.{cell, HopsIn}
-use Rattle.planner.specs.Words.{word_bit}
+use Rattle.rack.specs.Words.{word_bit}
 use Rattle.planner.specs.OpenColumns.{bit_in, WordsOf}
 use Rattle.planner.specs.Planning.{card_words, all_words, all_hops}
 

@@ -10,7 +10,7 @@ use Rattle.rack.specs.Hops.{hops}
 use Rattle.rack.specs.Columns.{column_count, address}
 use Rattle.rack.specs.WiringFile.{file_wiring, file_refusal}
 use Rattle.survey.specs.Tables.{cell}
-use Rattle.planner.specs.Words.{word_bit}
+use Rattle.rack.specs.Words.{word_bit}
 use Rattle.rack.specs.Limits.{lent_words, lent_hops}
 use Rattle.planner.specs.Planning.{all_words, all_hops, left_in, planning_refusal, PlanSays, Asked, AddressesFound}
 use Rattle.planner.specs.Answer.{Answer}

@@ -1,5 +1,4 @@
 pub mod PlanBytes
-pub mod Words
 pub mod Answer
 pub mod OpenColumns
 pub mod Stages

@@ -6,7 +6,7 @@ use Rattle.rack.specs.Bits.{number_bit, bits_value}
 use Rattle.rack.specs.Wiring.{Link, Wiring}
 use Rattle.rack.specs.Columns.{column, hamming}
 use Rattle.survey.specs.Tables.{cell}
-use Rattle.planner.specs.Words.{word_bit}
+use Rattle.rack.specs.Words.{word_bit}
 
 -- bit j of card c in a list of columns, 0 past the last
 unfoldable pub bit_in : List (List Bool) → (c j : ℕ) → Bool

@@ -12,7 +12,7 @@ use Rattle.rack.specs.Embeddings.{column_of, reduced_columns, times}
 use Rattle.planner.specs.PlanBytes.{plan_bytes}
 use Rattle.rack.specs.PlanFile.{plan_columns, plan_bit}
 use Rattle.survey.specs.Tables.{cell}
-use Rattle.planner.specs.Words.{word_bit}
+use Rattle.rack.specs.Words.{word_bit}
 use Rattle.planner.specs.Answer.{Answer}
 
 -- four words a card; column j is bit j mod 64 of word j / 64

@@ -12,3 +12,4 @@ pub mod Formed
 pub mod PlanFile
 pub mod Embeddings
 pub mod Promises
+pub mod Words

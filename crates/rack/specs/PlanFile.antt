@@ -1,9 +1,10 @@
 -- Plan files: where the sizes, the wiring and the addresses stand in their bytes. Assumes nothing: these are definitions.
-use Rattle.std.specs.Prelude.{◌≡◌, Bool, List, ℕ, ◌+◌, ◌*◌, ◌/◌, ◌≤◌, get_or, length}
+use Rattle.std.specs.Prelude.{◌≡◌, Bool, List, ℕ, ◌+◌, ◌*◌, ◌/◌, ◌≤◌, ◌<◌, get_or, length, take, drop}
+use Rattle.std.specs.Borrow.{Bor}
 use Rattle.rack.specs.Limits.{most_cards, most_links, most_columns}
 use Rattle.rack.specs.Bits.{bits_of}
 use Rattle.rack.specs.Wiring.{Wiring}
-use Rattle.rack.specs.Buffers.{number_at}
+use Rattle.rack.specs.Buffers.{SliceIs, number_at}
 use Rattle.rack.specs.WiringFile.{wiring_at}
 use Rattle.rack.specs.Columns.{hamming}
 
@@ -51,6 +52,12 @@ bit_from ps at j = bits_of (λ t. get_or ps (at + t) 0) j
 -- bit j of card c's address, and the differing places of two addresses: only the first k columns count
 unfoldable pub plan_bit : List ℕ → (c j : ℕ) → Bool
 plan_bit ps c j = bit_from ps (address_start ps c) j
+
+-- the address of card c as that part of the plan's own bytes
+pub record AddressIs (ps : Bor (List ℕ)) (c : ℕ) (r : Bor (List ℕ)) : Type 0 where
+  pub part : SliceIs (ps.ref_ptr.0, address_start ps.now c + ps.ref_ptr.1) (take (address_size (plan_columns ps.now)) (drop (address_start ps.now c) ps.now)) r
+  pub long : length r.now ≡ address_size (plan_columns ps.now)
+  pub bits : (j : ℕ) → j < plan_columns ps.now → bit_from r.now 0 j ≡ plan_bit ps.now c j
 
 unfoldable pub plan_hamming : List ℕ → (a b : ℕ) → ℕ
 plan_hamming ps a b = hamming (plan_columns ps) (plan_bit ps a) (plan_bit ps b)

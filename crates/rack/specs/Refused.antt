@@ -1,5 +1,6 @@
--- The number of each refusal, and the link or card that it carries. Assumes nothing: these are definitions.
-use Rattle.std.specs.Prelude.{◌≡◌, ℕ, Result, Ok, Err}
+-- The number of each refusal, the link or card that it carries, and how it is printed. Assumes nothing: these are definitions.
+use Rattle.std.specs.Prelude.{◌≡◌, ℕ, List, [], ◌++◌, Option, None, Some, Result, Ok, Err, codes}
+use Rattle.std.specs.Fmt.{decimal}
 use Rattle.rack.specs.Refusals.{Refusal, refusal}
 use Rattle.rack.specs.declared.refused.Refused.{Refused}
 use Rattle.rack.specs.declared.refused.Refused.TheVariants.{Lent, NoSizes, Cards, Links, Length, NoEnd, OneCard, Parallel, Unreached, OddLoop, NoAddresses, Layout, Content, NoCard, Full, Largest, NotLast, NoCaller, NoFrame}
@@ -34,3 +35,24 @@ number_of (Err e) = (refusal_of e).number
 abbrev pub RefusesWith : {A : Type 0} → Refusal → Result A Refused → Type 0
 RefusesWith f (Ok x) = f.number ≡ 0
 RefusesWith f (Err e) = f ≡ refusal_of e
+
+-- the link or card in fault, where a refusal carries one
+abbrev pub place_of : Refused → Option ℕ
+place_of (NoEnd i) = Some i
+place_of (OneCard i) = Some i
+place_of (Parallel i) = Some i
+place_of (Unreached c) = Some c
+place_of (OddLoop i) = Some i
+place_of e = None
+
+-- as it is printed: 6, 7, 8 and 10 name a link, 9 a card
+abbrev pub place_words : Refused → List ℕ
+place_words (NoEnd i) = codes " link " ++ decimal i
+place_words (OneCard i) = codes " link " ++ decimal i
+place_words (Parallel i) = codes " link " ++ decimal i
+place_words (OddLoop i) = codes " link " ++ decimal i
+place_words (Unreached c) = codes " card " ++ decimal c
+place_words e = []
+
+abbrev pub refused_words : Refused → List ℕ
+refused_words e = codes "refused " ++ decimal (refusal_of e).number ++ place_words e

@@ -1,7 +1,8 @@
-// Numbers of 16 and 32 bits, read and written where they stand, and the ends of links.
-ghost use Rattle.std.specs.Prelude.{◌≡◌, ◌+◌, ◌*◌, ◌<◌, ◌≤◌, length};
+// Numbers of 16 and 32 bits, read and written where they stand, single bits, and the ends of links.
+ghost use Rattle.std.specs.Prelude.{◌≡◌, ◌+◌, ◌*◌, ◌/◌, ◌<◌, ◌≤◌, length};
 ghost use Rattle.rack.specs.Wiring.{link_at};
 ghost use Rattle.rack.specs.Buffers.{Appends, four_bytes, number_at, number32_at, two_bytes};
+ghost use Rattle.rack.specs.PlanFile.{bit_from};
 ghost use Rattle.rack.specs.WiringFile.{wiring_at};
 
 // The number of 16 bits at a place, low byte first.
@@ -19,6 +20,14 @@ pub fn number32_at(bytes: &[u8], at: usize) -> u32
     ensures { result ≡ number32_at bytes.now at }
 {
     u32::from_le_bytes([bytes[at], bytes[at + 1], bytes[at + 2], bytes[at + 3]])
+}
+
+// Bit `j` of the bytes from a place on.
+pub fn bit_at(bytes: &[u8], at: usize, j: usize) -> bool
+    requires { at + j / 8 < length bytes.now }
+    ensures { result ≡ bit_from bytes.now at j }
+{
+    (bytes[at + j / 8] >> (j % 8)) % 2 == 1
 }
 
 // Appends a number of 16 bits, low byte first, to bytes that are written up to `at`.

@@ -1,5 +1,5 @@
 // Wirings, hops, columns, addresses and embeddings: definitions in specs/, their mathematics in proofs/.
-// The code is what all layers share: limits, refusals, numbers in bytes, wiring files and plan files seen with their sizes.
+// The code is what all layers share: limits, refusals, numbers and bits in bytes and in words, wiring files and plan files seen with their sizes.
 #![tactic(auto)]
 
 pub mod bytes;
@@ -7,3 +7,4 @@ pub mod limits;
 pub mod plan_file;
 pub mod refused;
 pub mod views;
+pub mod words;

@@ -1,6 +1,8 @@
 // Why a call refuses: each refusal has its number, and those of 6 to 10 the link or card in fault (docs/REQUIREMENTS.md, Refusals by place).
 ghost use Rattle.std.specs.Prelude.{◌≡◌};
-ghost use Rattle.rack.specs.Refused.{refusal_of};
+ghost use Rattle.rack.specs.Refused.{place_of, refusal_of, refused_words};
+
+use std::fmt;
 
 #[derive(Clone, Copy, Debug, PartialEq, Eq)]
 pub enum Refused {
@@ -53,17 +55,36 @@ impl Refused {
         }
     }
 
-    // The link or card in fault, 0 where it carries none.
-    pub fn place(self) -> u32
-        ensures { result ≡ (refusal_of self).at }
+    // The link or card in fault, where it carries one.
+    pub fn place(self) -> Option<u32>
+        ensures { result ≡ place_of self }
     {
         match self {
             Refused::NoEnd(at)
             | Refused::OneCard(at)
             | Refused::Parallel(at)
             | Refused::Unreached(at)
-            | Refused::OddLoop(at) => at,
-            _ => 0,
+            | Refused::OddLoop(at) => Some(at),
+            _ => None,
+        }
+    }
+}
+
+// Its number, and the link or card in fault.
+impl fmt::Display for Refused {
+    ghost use Rattle.std.specs.Prelude.{Some};
+
+    ghost output = { λ e. Some (refused_words e) };
+
+    fn fmt<W: fmt::Write>(&self, f: &mut fmt::Formatter<W>) -> fmt::Result {
+        write!(f, "refused {}", self.number())?;
+        match self {
+            Refused::NoEnd(link)
+            | Refused::OneCard(link)
+            | Refused::Parallel(link)
+            | Refused::OddLoop(link) => write!(f, " link {link}"),
+            Refused::Unreached(card) => write!(f, " card {card}"),
+            _ => Ok(()),
         }
     }
 }

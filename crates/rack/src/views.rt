@@ -2,11 +2,11 @@
 ghost use Rattle.rack.specs.Formed.{Formed, SizesAre};
 ghost use Rattle.rack.specs.PlanFile.{Sized};
 
-use crate::bytes::{first_end, second_end};
+use crate::bytes::{bit_at, first_end, second_end};
 use crate::plan_file::{address_size, address_start};
 
 // A wiring file that passed 2 to 5.
-#[derive(Clone, Copy)]
+#[derive(Clone, Copy, Debug, PartialEq, Eq)]
 pub struct SizedFile<'a> {
     pub bytes: &'a [u8],
     pub cards: usize,
@@ -15,16 +15,14 @@ pub struct SizedFile<'a> {
 }
 
 // A wiring file that passed 2 to 7: every link joins two different cards.
-#[derive(Clone, Copy)]
+#[derive(Clone, Copy, Debug, PartialEq, Eq)]
 pub struct FormedFile<'a> {
-    pub bytes: &'a [u8],
-    pub cards: usize,
-    pub links: usize,
-    pub ghost formed: { Formed bytes.now cards links },
+    pub sized: SizedFile<'a>,
+    pub ghost formed: { Formed sized.bytes.now sized.cards sized.links },
 }
 
 // A plan that passed 12.
-#[derive(Clone, Copy)]
+#[derive(Clone, Copy, Debug, PartialEq, Eq)]
 pub struct Plan<'a> {
     pub bytes: &'a [u8],
     pub cards: usize,
@@ -62,35 +60,22 @@ impl<'a> FormedFile<'a> {
     ghost use Rattle.rack.specs.Wiring.{link_at};
     ghost use Rattle.rack.specs.WiringFile.{file_wiring};
 
-    // The file as one that passed 2 to 5.
-    pub fn sized(self) -> SizedFile<'a>
-        ensures bytes { result.bytes ≡ self.entry.bytes }
-        ensures cards { result.cards ≡ self.entry.cards }
-        ensures links { result.links ≡ self.entry.links }
-    {
-        SizedFile {
-            bytes: self.bytes,
-            cards: self.cards,
-            links: self.links,
-        }
-    }
-
     // The first end of link `i`, a card.
     pub fn first_end(self, i: usize) -> usize
-        requires { i < self.links }
-        ensures is { result ≡ (link_at (file_wiring self.entry.bytes.now) i).first }
-        ensures card { result < self.entry.cards }
+        requires { i < self.sized.links }
+        ensures is { result ≡ (link_at (file_wiring self.entry.sized.bytes.now) i).first }
+        ensures card { result < self.entry.sized.cards }
     {
-        self.sized().first_end(i)
+        self.sized.first_end(i)
     }
 
     // The second end of link `i`, another card.
     pub fn second_end(self, i: usize) -> usize
-        requires { i < self.links }
-        ensures is { result ≡ (link_at (file_wiring self.entry.bytes.now) i).second }
-        ensures card { result < self.entry.cards }
+        requires { i < self.sized.links }
+        ensures is { result ≡ (link_at (file_wiring self.entry.sized.bytes.now) i).second }
+        ensures card { result < self.entry.sized.cards }
     {
-        self.sized().second_end(i)
+        self.sized.second_end(i)
     }
 }
 
@@ -98,7 +83,7 @@ impl<'a> Plan<'a> {
     ghost use Rattle.std.specs.Prelude.{◌≡◌, ◌+◌, ◌*◌, ◌<◌, ◌≤◌};
     ghost use Rattle.rack.specs.Limits.{lent_plan};
     ghost use Rattle.rack.specs.Wiring.{link_at};
-    ghost use Rattle.rack.specs.PlanFile.{address_size, address_start, addresses_start, plan_wiring};
+    ghost use Rattle.rack.specs.PlanFile.{AddressIs, address_size, addresses_start, plan_bit, plan_wiring};
 
     // The first end of link `i`; it need not be a card.
     pub fn first_end(self, i: usize) -> usize
@@ -133,5 +118,22 @@ impl<'a> Plan<'a> {
         ensures inside { result ≤ lent_plan }
     {
         address_start(self.links, address_size(self.columns), c)
+    }
+
+    // The address of card `c`: that part of the plan's own bytes.
+    pub fn address(self, c: usize) -> &'a [u8]
+        requires { c < self.cards }
+        ensures { AddressIs self.entry.bytes c result }
+    {
+        let start = self.address_start(c);
+        &self.bytes[start..start + self.address_size()]
+    }
+
+    // Whether card `c` has 1 in column `j`.
+    pub fn bit(self, c: usize, j: usize) -> bool
+        requires { (c < self.cards) × (j < self.columns) }
+        ensures { result ≡ plan_bit self.entry.bytes.now c j }
+    {
+        bit_at(self.bytes, self.address_start(c), j)
     }
 }

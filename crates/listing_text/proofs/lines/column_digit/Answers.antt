@@ -1,6 +1,6 @@
 -- A shift and the remainder by 2 take the column's bit out of its word. Assumes nothing.
 use mathlib.Core.Path.{sym, ap, ◌∙◌}
-use Rattle.planner.specs.Words.{word_bit}
+use Rattle.rack.specs.Words.{word_bit}
 use Rattle.text.specs.Decimals.{digit_code}
 use Rattle.listing_text.proofs.CardLines.{one_number_bit}
 use Rattle.listing_text.proofs.lines.column_digit.Goals as goal

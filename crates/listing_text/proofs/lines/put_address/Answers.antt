@@ -2,7 +2,7 @@
 use mathlib.Core.Path.{sym, ap}
 use native.Mathlib.Omega.{arith}
 use lib.ListN.{length}
-use Rattle.planner.specs.Words.{word_bit}
+use Rattle.rack.specs.Words.{word_bit}
 use Rattle.listing_text.specs.Listing.{dash}
 use Rattle.text.proofs.Putting.{grows_as}
 use Rattle.listing_text.proofs.CardLines.{address_none, address_columns, length_columns}

@@ -1,6 +1,6 @@
 -- One part is appended after the other. Assumes nothing.
 use native.Mathlib.Omega.{arith}
-use Rattle.planner.specs.Words.{word_bit}
+use Rattle.rack.specs.Words.{word_bit}
 use Rattle.listing_text.specs.Listing.{card_word, space, line_end, card_line}
 use Rattle.text.proofs.Putting.{grows_then, room_then}
 use Rattle.listing_text.proofs.CardLines.{card_line_room}

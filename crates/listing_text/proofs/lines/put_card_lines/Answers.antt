@@ -2,7 +2,7 @@
 use mathlib.Core.Path.{sym}
 use native.Mathlib.Omega.{arith}
 use Rattle.rack.proofs.Tables.{blocks_snoc}
-use Rattle.planner.specs.Words.{word_bit}
+use Rattle.rack.specs.Words.{word_bit}
 use Rattle.listing_text.specs.Listing.{card_line}
 use Rattle.text.proofs.Putting.{grows_then, grows_as, room_then}
 use Rattle.listing_text.proofs.CardLines.{blocks_room}
