@@ -4,6 +4,7 @@ pub mod Tables
 pub mod Searches
 pub mod Sums
 pub mod Bits
+pub mod WordBits
 pub mod Hamming
 pub mod Paths
 pub mod Hops
