@@ -57,18 +57,18 @@ fn open_link(
     k: usize,
     words: &mut [u64; LENT_WORDS],
 ) -> Option<usize>
-    requires { (i < file.links) × HopsIn (file_wiring file.bytes.now) hops.now × ColumnsOpened (file_wiring file.bytes.now) file.cards i words.old k }
-    ensures { MatchOption result (file.entry.cards ≤ length (columns_opened (file_wiring file.entry.bytes.now) (i + 1))) (ColumnsOpened (file_wiring file.entry.bytes.now) file.entry.cards (i + 1) words.new) }
+    requires { (i < file.sized.links) × HopsIn (file_wiring file.sized.bytes.now) hops.now × ColumnsOpened (file_wiring file.sized.bytes.now) file.sized.cards i words.old k }
+    ensures { MatchOption result (file.entry.sized.cards ≤ length (columns_opened (file_wiring file.entry.sized.bytes.now) (i + 1))) (ColumnsOpened (file_wiring file.entry.sized.bytes.now) file.entry.sized.cards (i + 1) words.new) }
 {
     let p = file.first_end(i);
     let q = file.second_end(i);
     if words_differ(words, p, q) {
         return Some(k);
     }
-    if file.cards <= k + 1 {
+    if file.sized.cards <= k + 1 {
         return None;
     }
-    add_column(hops, file.cards, p, q, k, words);
+    add_column(hops, file.sized.cards, p, q, k, words);
     Some(k + 1)
 }
 
@@ -78,11 +78,11 @@ pub fn open_columns(
     hops: &[u8; LENT_HOPS],
     words: &mut [u64; LENT_WORDS],
 ) -> Option<usize>
-    requires { HopsIn (file_wiring file.bytes.now) hops.now × (words.old ≡ replicate lent_words 0) }
-    ensures { MatchOption result (file.entry.cards ≤ length (columns_opened (file_wiring file.entry.bytes.now) file.entry.links)) (ColumnsOpened (file_wiring file.entry.bytes.now) file.entry.cards file.entry.links words.new) }
+    requires { HopsIn (file_wiring file.sized.bytes.now) hops.now × (words.old ≡ replicate lent_words 0) }
+    ensures { MatchOption result (file.entry.sized.cards ≤ length (columns_opened (file_wiring file.entry.sized.bytes.now) file.entry.sized.links)) (ColumnsOpened (file_wiring file.entry.sized.bytes.now) file.entry.sized.cards file.entry.sized.links words.new) }
 {
     let mut k = 0;
-    for i in 0..file.links {
+    for i in 0..file.sized.links {
         k = open_link(file, i, hops, k, words)?;
     }
     Some(k)

@@ -43,12 +43,12 @@ fn address_cards(
     hops: &[u8; LENT_HOPS],
     words: &mut [u64; LENT_WORDS],
 ) -> Option<usize>
-    requires { (connected (file_wiring file.bytes.now) ≡ true) × HopsIn (file_wiring file.bytes.now) hops.now × (words.old ≡ replicate lent_words 0) }
-    ensures { MatchOption result (Embedding (file_wiring file.entry.bytes.now) (column_count (file_wiring file.entry.bytes.now)) (address (file_wiring file.entry.bytes.now)) → ⊥) (Addressed (file_wiring file.entry.bytes.now) words.new) }
+    requires { (connected (file_wiring file.sized.bytes.now) ≡ true) × HopsIn (file_wiring file.sized.bytes.now) hops.now × (words.old ≡ replicate lent_words 0) }
+    ensures { MatchOption result (Embedding (file_wiring file.entry.sized.bytes.now) (column_count (file_wiring file.entry.sized.bytes.now)) (address (file_wiring file.entry.sized.bytes.now)) → ⊥) (Addressed (file_wiring file.entry.sized.bytes.now) words.new) }
 {
     let k = open_columns(file, hops, words)?;
     let ones = ones_table();
-    if pairs_measure(&ones, words, words_used(k), hops, file.cards) {
+    if pairs_measure(&ones, words, words_used(k), hops, file.sized.cards) {
         Some(k)
     } else {
         None
@@ -61,8 +61,8 @@ fn plan_connected(
     words: &mut [u64; LENT_WORDS],
     hops: &[u8; LENT_HOPS],
 ) -> Result<usize, Refused>
-    requires { (connected (file_wiring file.bytes.now) ≡ true) × HopsIn (file_wiring file.bytes.now) hops.now × (words.old ≡ replicate lent_words 0) }
-    ensures { RackPlanned (file_wiring file.entry.bytes.now) (answer_of result) words.new hops.now }
+    requires { (connected (file_wiring file.sized.bytes.now) ≡ true) × HopsIn (file_wiring file.sized.bytes.now) hops.now × (words.old ≡ replicate lent_words 0) }
+    ensures { RackPlanned (file_wiring file.entry.sized.bytes.now) (answer_of result) words.new hops.now }
 {
     parity_refusal(file, hops)?;
     address_cards(file, hops, words).ok_or(Refused::NoAddresses)
@@ -75,7 +75,7 @@ fn plan_formed(
     hops: &mut [u8; LENT_HOPS],
 ) -> Result<usize, Refused>
     requires { (words.old ≡ replicate lent_words 0) × (hops.old ≡ replicate lent_hops 0) }
-    ensures { RackPlanned (file_wiring file.entry.bytes.now) (answer_of result) words.new hops.new }
+    ensures { RackPlanned (file_wiring file.entry.sized.bytes.now) (answer_of result) words.new hops.new }
 {
     let mut order = [0u16; MOST_LINKS];
     put_link_order(file, &mut order);

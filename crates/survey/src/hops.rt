@@ -30,8 +30,8 @@ fn lower_row(bounds: &mut [u8; LENT_HOPS], to: usize, by: usize) -> u8
 
 // Lowers the rows of the ends of link `i`, each to one more than the other.
 fn lower_link(file: FormedFile<'_>, i: usize, bounds: &mut [u8; LENT_HOPS]) -> u8
-    requires { (i < file.links) × Above (file_wiring file.bytes.now) bounds.old }
-    ensures { Passed (file_wiring file.entry.bytes.now) bounds.old bounds.new i (i + 1) result }
+    requires { (i < file.sized.links) × Above (file_wiring file.sized.bytes.now) bounds.old }
+    ensures { Passed (file_wiring file.entry.sized.bytes.now) bounds.old bounds.new i (i + 1) result }
 {
     let p = file.first_end(i);
     let q = file.second_end(i);
@@ -42,11 +42,11 @@ fn lower_link(file: FormedFile<'_>, i: usize, bounds: &mut [u8; LENT_HOPS]) -> u
 
 // Lowers by every link once, in rising order.
 fn lower_pass(file: FormedFile<'_>, bounds: &mut [u8; LENT_HOPS]) -> u8
-    requires { Above (file_wiring file.bytes.now) bounds.old }
-    ensures { Passed (file_wiring file.entry.bytes.now) bounds.old bounds.new 0 file.entry.links result }
+    requires { Above (file_wiring file.sized.bytes.now) bounds.old }
+    ensures { Passed (file_wiring file.entry.sized.bytes.now) bounds.old bounds.new 0 file.entry.sized.links result }
 {
     let mut off: u8 = 0;
-    for i in 0..file.links {
+    for i in 0..file.sized.links {
         let a = lower_link(file, i, bounds);
         off = off.max(a);
     }
@@ -59,14 +59,14 @@ fn sweep<'a, I: Iterator<Item = &'a u16> + Drop>(
     order: I,
     bounds: &mut [u8; LENT_HOPS],
 )
-    requires above { Above (file_wiring file.bytes.now) bounds.old }
+    requires above { Above (file_wiring file.sized.bytes.now) bounds.old }
     requires can { I.can_next order }
     requires ends { IsFinite (I.remaining order) }
-    ensures { Swept (file_wiring file.entry.bytes.now) bounds.old bounds.new }
+    ensures { Swept (file_wiring file.entry.sized.bytes.now) bounds.old bounds.new }
 {
     for link in order {
         let i = usize::from(*link);
-        if i < file.links {
+        if i < file.sized.links {
             lower_link(file, i, bounds);
         }
     }
@@ -79,10 +79,10 @@ fn sweep<'a, I: Iterator<Item = &'a u16> + Drop>(
 // rack stands in the order once). It is the last if its third sweep lowers nothing, so at the latest if its first two have made all bounds
 // hops: a third of the diameter in rounds, rounded down, and one more are enough, and for 256 cards 86.
 fn settle(file: FormedFile<'_>, order: &[u16; MOST_LINKS], bounds: &mut [u8; LENT_HOPS])
-    requires { Above (file_wiring file.bytes.now) bounds.old }
-    ensures { HopsIn (file_wiring file.entry.bytes.now) bounds.new }
+    requires { Above (file_wiring file.sized.bytes.now) bounds.old }
+    ensures { HopsIn (file_wiring file.entry.sized.bytes.now) bounds.new }
 {
-    let links = &order[..file.links];
+    let links = &order[..file.sized.links];
     loop {
         sweep(file, links.iter().rev(), bounds);
         sweep(file, links.iter(), bounds);
@@ -116,19 +116,19 @@ fn start_bounds(n: usize, bounds: &mut [u8; LENT_HOPS])
 
 // The hops between all cards of a connected rack.
 pub fn all_hops(file: FormedFile<'_>, order: &[u16; MOST_LINKS], hops: &mut [u8; LENT_HOPS])
-    requires { connected (file_wiring file.bytes.now) ≡ true }
-    ensures { HopsIn (file_wiring file.entry.bytes.now) hops.new }
+    requires { connected (file_wiring file.sized.bytes.now) ≡ true }
+    ensures { HopsIn (file_wiring file.entry.sized.bytes.now) hops.new }
 {
-    start_bounds(file.cards, hops);
+    start_bounds(file.sized.cards, hops);
     settle(file, order, hops);
 }
 
 // The lowest link whose ends have equal hops from card 0, with 10.
 pub fn parity_refusal(file: FormedFile<'_>, hops: &[u8; LENT_HOPS]) -> Result<(), Refused>
-    requires { HopsIn (file_wiring file.bytes.now) hops.now }
-    ensures { RefusesWith (parity_refusal (file_wiring file.entry.bytes.now)) result }
+    requires { HopsIn (file_wiring file.sized.bytes.now) hops.now }
+    ensures { RefusesWith (parity_refusal (file_wiring file.entry.sized.bytes.now)) result }
 {
-    for i in 0..file.links {
+    for i in 0..file.sized.links {
         if hops[file.first_end(i)] == hops[file.second_end(i)] {
             return Err(Refused::OddLoop(i as u32));
         }

@@ -71,14 +71,10 @@ pub fn formed_file<'a>(
 ) -> Result<FormedFile<'a>, Refused>
     requires { marks.old ≡ replicate lent_hops 0 }
     ensures refuses { RefusesWith (links_refusal (file_wiring file.entry.bytes.now)) result }
-    ensures same { IfOk result (λ formed. formed.bytes.now ≡ file.entry.bytes.now) }
+    ensures same { IfOk result (λ formed. formed.sized.bytes.now ≡ file.entry.bytes.now) }
 {
     for i in 0..file.links {
         link_fault(file, i, marks)?;
     }
-    Ok(FormedFile {
-        bytes: file.bytes,
-        cards: file.cards,
-        links: file.links,
-    })
+    Ok(FormedFile { sized: file })
 }

@@ -12,8 +12,8 @@ use rack::views::FormedFile;
 
 // Flags the other end of link `i` where just one end is flagged; gives how many flags are new.
 fn spread_link(file: FormedFile<'_>, i: usize, flags: &mut [u8; LENT_HOPS]) -> usize
-    requires { (i < file.links) × Flagged (file_wiring file.bytes.now) flags.old }
-    ensures { Spread (file_wiring file.entry.bytes.now) flags.old flags.new i (i + 1) result }
+    requires { (i < file.sized.links) × Flagged (file_wiring file.sized.bytes.now) flags.old }
+    ensures { Spread (file_wiring file.entry.sized.bytes.now) flags.old flags.new i (i + 1) result }
 {
     let p = file.first_end(i);
     let q = file.second_end(i);
@@ -30,11 +30,11 @@ fn spread_link(file: FormedFile<'_>, i: usize, flags: &mut [u8; LENT_HOPS]) -> u
 
 // Spreads the flags over every link once.
 fn spread_pass(file: FormedFile<'_>, flags: &mut [u8; LENT_HOPS]) -> usize
-    requires { Flagged (file_wiring file.bytes.now) flags.old }
-    ensures { Spread (file_wiring file.entry.bytes.now) flags.old flags.new 0 file.entry.links result }
+    requires { Flagged (file_wiring file.sized.bytes.now) flags.old }
+    ensures { Spread (file_wiring file.entry.sized.bytes.now) flags.old flags.new 0 file.entry.sized.links result }
 {
     let mut moved = 0;
-    for i in 0..file.links {
+    for i in 0..file.sized.links {
         moved += spread_link(file, i, flags);
     }
     moved
@@ -42,12 +42,12 @@ fn spread_pass(file: FormedFile<'_>, flags: &mut [u8; LENT_HOPS]) -> usize
 
 // Spreads the flags over the links in an order.
 fn spread_order(file: FormedFile<'_>, order: &[u16; MOST_LINKS], flags: &mut [u8; LENT_HOPS])
-    requires { Flagged (file_wiring file.bytes.now) flags.old }
-    ensures { Flagged (file_wiring file.entry.bytes.now) flags.new }
+    requires { Flagged (file_wiring file.sized.bytes.now) flags.old }
+    ensures { Flagged (file_wiring file.entry.sized.bytes.now) flags.new }
 {
-    for link in &order[..file.links] {
+    for link in &order[..file.sized.links] {
         let i = usize::from(*link);
-        if i < file.links {
+        if i < file.sized.links {
             spread_link(file, i, flags);
         }
     }
@@ -56,7 +56,7 @@ fn spread_order(file: FormedFile<'_>, order: &[u16; MOST_LINKS], flags: &mut [u8
 // Flags every card that can be reached from card 0, in a buffer that is zero at entry. The order only saves passes.
 fn reach(file: FormedFile<'_>, order: &[u16; MOST_LINKS], flags: &mut [u8; LENT_HOPS])
     requires { flags.old ≡ replicate lent_hops 0 }
-    ensures { Reached (file_wiring file.entry.bytes.now) flags.new }
+    ensures { Reached (file_wiring file.entry.sized.bytes.now) flags.new }
 {
     flags[0] = 1;
     spread_order(file, order, flags);
@@ -82,10 +82,10 @@ pub fn reach_refusal(
     flags: &mut [u8; LENT_HOPS],
 ) -> Result<(), Refused>
     requires { flags.old ≡ replicate lent_hops 0 }
-    ensures { RefusesWith (reach_refusal (file_wiring file.entry.bytes.now)) result }
+    ensures { RefusesWith (reach_refusal (file_wiring file.entry.sized.bytes.now)) result }
 {
     reach(file, order, flags);
-    match first_unflagged(file.cards, flags) {
+    match first_unflagged(file.sized.cards, flags) {
         Some(c) => Err(Refused::Unreached(c as u32)),
         None => Ok(()),
     }

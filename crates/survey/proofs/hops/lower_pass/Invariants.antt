@@ -4,4 +4,4 @@ use Rattle.survey.specs.Lowering.{Passed}
 use Rattle.survey.proofs.hops.lower_pass.Given as goal
 
 abbrev pub invariant-loop-i : goal.invariant-loop-i
-invariant-loop-i l = Passed (file_wiring l.file.bytes.now) l.initial.bounds l.bounds 0 l.i l.off
+invariant-loop-i l = Passed (file_wiring l.file.sized.bytes.now) l.initial.bounds l.bounds 0 l.i l.off

@@ -15,7 +15,7 @@ returns-then-hops-first_end c =
 
 pub loop-i-preserved : goal.loop-i-preserved
 loop-i-preserved c =
-    below_more (Uneven (file_wiring c.args.file.bytes.now)) c.loop-i.i c.loop-i.invariant
+    below_more (Uneven (file_wiring c.args.file.sized.bytes.now)) c.loop-i.i c.loop-i.invariant
     (unequal_uneven _ _ _ _ _ _ _ c.args.file.formed c.requires (omega arith) c.first_end.ensures.is c.second_end.ensures.is c.if-hops-first_end.false)
 
 pub returns : goal.returns

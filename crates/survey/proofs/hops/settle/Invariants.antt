@@ -5,7 +5,7 @@ use Rattle.survey.specs.Lowering.{Above}
 use Rattle.survey.proofs.hops.settle.Given as goal
 
 abbrev pub invariant-loop-links : goal.invariant-loop-links
-invariant-loop-links l = Above (file_wiring l.file.bytes.now) l.bounds
+invariant-loop-links l = Above (file_wiring l.file.sized.bytes.now) l.bounds
 
 abbrev pub decreases-loop-links : goal.decreases-loop-links
 decreases-loop-links l = sum l.bounds

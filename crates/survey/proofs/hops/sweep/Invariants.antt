@@ -4,4 +4,4 @@ use Rattle.survey.specs.Lowering.{Swept}
 use Rattle.survey.proofs.hops.sweep.Given as goal
 
 abbrev pub invariant-loop-link : goal.invariant-loop-link
-invariant-loop-link g l = Swept (file_wiring l.file.bytes.now) l.initial.bounds l.bounds
+invariant-loop-link g l = Swept (file_wiring l.file.sized.bytes.now) l.initial.bounds l.bounds

@@ -4,4 +4,4 @@ use Rattle.rack.specs.WiringFile.{file_wiring}
 use Rattle.survey.proofs.reach.spread_pass.Given as goal
 
 abbrev pub invariant-loop-i : goal.invariant-loop-i
-invariant-loop-i l = Spread (file_wiring l.file.bytes.now) l.initial.flags l.flags 0 l.i l.moved
+invariant-loop-i l = Spread (file_wiring l.file.sized.bytes.now) l.initial.flags l.flags 0 l.i l.moved
