@@ -3,7 +3,6 @@ use mathlib.Core.Path.{◌≡◌, refl, sym, ap, ap₂, ◌∙◌}
 use mathlib.Core.Bool.{Bool, true, false, not, beq}
 use mathlib.Core.List.{List, [], ◌∷◌, ◌++◌}
 use Prim.Native.Nat.{ℕ, ◌+◌, ◌*◌, ◌/◌, ◌%◌, ◌^◌, ◌<◌}
-use native.Mathlib.Nat.{zero-add}
 use native.Mathlib.Omega.{arith}
 use lib.Dec.{ltb}
 use lib.ListN.{length, get_or}
@@ -25,9 +24,9 @@ unequal_differ true false = refl
 unequal_differ false true = refl
 unequal_differ false false = refl
 
-pub side_in_is : (h : List ℕ) (p q c : ℕ) → not (beq (ltb (cell h c p) (cell h c q)) (ltb (get_or h p 0) (get_or h q 0))) ≡ side_in h p q c
+pub side_in_is : (h : List ℕ) (p q c : ℕ) → not (beq (ltb (cell h c p) (cell h c q)) (ltb (cell h 0 p) (cell h 0 q))) ≡ side_in h p q c
 unfolding side_in
-side_in_is h p q c = rw (zero-add p, zero-add q) (unequal_differ (ltb (cell h c p) (cell h c q)) (ltb (get_or h p 0) (get_or h q 0)))
+side_in_is h p q c = unequal_differ (ltb (cell h c p) (cell h c q)) (ltb (cell h 0 p) (cell h 0 q))
 
 side_in_side : (w : Wiring) (h : List ℕ) (l : Link) → HopsIn w h → l.first < w.cards → l.second < w.cards → (c : ℕ) → c < w.cards
     → side_in h l.first l.second c ≡ side w l c

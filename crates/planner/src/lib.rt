@@ -12,12 +12,9 @@
 // The tests of 2 to 10 and the hops are those of the crate survey.
 #![tactic(auto)]
 
-ghost use Rattle.std.specs.Prelude.{◌≡◌, true, MatchOption, replicate};
-ghost use Rattle.rack.specs.Limits.{lent_hops, lent_words};
+ghost use Rattle.std.specs.Prelude.{MatchOption};
 ghost use Rattle.rack.specs.Columns.{Embedding, address, column_count};
-ghost use Rattle.rack.specs.Hops.{connected};
 ghost use Rattle.rack.specs.WiringFile.{file_wiring};
-ghost use Rattle.survey.specs.Tables.{HopsIn};
 ghost use Rattle.planner.specs.Answer.{answer_of};
 ghost use Rattle.planner.specs.Stages.{Addressed, FilePlanned, RackPlanned};
 ghost use Rattle.planner.specs.Planning.{AddressesFound, Asked, AskedToWrite, PlanFound, PlanSays, WriteSays};
@@ -32,79 +29,68 @@ use rack::refused::Refused;
 use rack::views::{FormedFile, SizedFile};
 use survey::hops::{all_hops, parity_refusal};
 use survey::links::{formed_file, sized_file};
+use survey::measured::{ConnectedFile, MeasuredFile};
 use survey::reach::reach_refusal;
 
 pub mod columns;
 pub mod pairs;
 
-// Addresses in words that are zero at entry, and the number of columns; none where the rack has no addresses.
-fn address_cards(
-    file: FormedFile<'_>,
-    hops: &[u8; LENT_HOPS],
-    words: &mut [u64; LENT_WORDS],
-) -> Option<usize>
-    requires { (connected (file_wiring file.sized.bytes.now) ≡ true) × HopsIn (file_wiring file.sized.bytes.now) hops.now × (words.old ≡ replicate lent_words 0) }
-    ensures { MatchOption result (Embedding (file_wiring file.entry.sized.bytes.now) (column_count (file_wiring file.entry.sized.bytes.now)) (address (file_wiring file.entry.sized.bytes.now)) → ⊥) (Addressed (file_wiring file.entry.sized.bytes.now) words.new) }
+// Addresses in the words, and the number of columns; none where the rack has no addresses.
+fn address_cards(file: ConnectedFile<'_>, words: &mut [u64; LENT_WORDS]) -> Option<usize>
+    ensures { MatchOption result (Embedding (file_wiring file.entry.measured.formed.sized.bytes.now) (column_count (file_wiring file.entry.measured.formed.sized.bytes.now)) (address (file_wiring file.entry.measured.formed.sized.bytes.now)) → ⊥) (Addressed (file_wiring file.entry.measured.formed.sized.bytes.now) words.new) }
 {
-    let k = open_columns(file, hops, words)?;
+    let measured = file.measured;
+    let k = open_columns(measured, words)?;
     let ones = ones_table();
-    if pairs_measure(&ones, words, words_used(k), hops, file.sized.cards) {
+    if pairs_measure(&ones, words, words_used(k), measured.hops, measured.formed.sized.cards) {
         Some(k)
     } else {
         None
     }
 }
 
-// The columns of a connected rack with its hops, whose addresses are put in words that are zero at entry, or 10 or 11.
-fn plan_connected(
-    file: FormedFile<'_>,
-    words: &mut [u64; LENT_WORDS],
-    hops: &[u8; LENT_HOPS],
-) -> Result<usize, Refused>
-    requires { (connected (file_wiring file.sized.bytes.now) ≡ true) × HopsIn (file_wiring file.sized.bytes.now) hops.now × (words.old ≡ replicate lent_words 0) }
-    ensures { RackPlanned (file_wiring file.entry.sized.bytes.now) (answer_of result) words.new hops.now }
+// The columns of a connected rack with its hops, whose addresses are put in the words, or 10 or 11.
+fn plan_connected(file: ConnectedFile<'_>, words: &mut [u64; LENT_WORDS]) -> Result<usize, Refused>
+    ensures { RackPlanned (file_wiring file.entry.measured.formed.sized.bytes.now) (answer_of result) words.new file.entry.measured.hops.now }
 {
-    parity_refusal(file, hops)?;
-    address_cards(file, hops, words).ok_or(Refused::NoAddresses)
+    parity_refusal(file.measured)?;
+    address_cards(file, words).ok_or(Refused::NoAddresses)
 }
 
-// The columns of a file that passed 2 to 8, with its plan in buffers that are zero at entry, or 9, 10 or 11.
+// The columns of a file that passed 2 to 8, with its plan in the buffers, or 9, 10 or 11.
 fn plan_formed(
     file: FormedFile<'_>,
     words: &mut [u64; LENT_WORDS],
     hops: &mut [u8; LENT_HOPS],
 ) -> Result<usize, Refused>
-    requires { (words.old ≡ replicate lent_words 0) × (hops.old ≡ replicate lent_hops 0) }
     ensures { RackPlanned (file_wiring file.entry.sized.bytes.now) (answer_of result) words.new hops.new }
 {
     let mut order = [0u16; MOST_LINKS];
     put_link_order(file, &mut order);
     reach_refusal(file, &order, hops)?;
     all_hops(file, &order, hops);
-    plan_connected(file, words, hops)
+    let measured = MeasuredFile { formed: file, hops };
+    plan_connected(ConnectedFile { measured }, words)
 }
 
-// The columns of a file that passed 2 to 5, with its plan in buffers that are zero at entry, or 6 to 11.
+// The columns of a file that passed 2 to 5, with its plan in the buffers, or 6 to 11.
 fn plan_sized(
     file: SizedFile<'_>,
     words: &mut [u64; LENT_WORDS],
     hops: &mut [u8; LENT_HOPS],
 ) -> Result<usize, Refused>
-    requires { (words.old ≡ replicate lent_words 0) × (hops.old ≡ replicate lent_hops 0) }
     ensures { FilePlanned file.entry.bytes.now (answer_of result) words.new hops.new }
 {
     let formed = formed_file(file, hops)?;
-    hops.fill(0);
     plan_formed(formed, words, hops)
 }
 
-// The columns of a file, with its plan in buffers that are zero at entry, or 2 to 11.
+// The columns of a file, with its plan in the buffers, or 2 to 11.
 pub fn plan_file(
     file: &[u8],
     words: &mut [u64; LENT_WORDS],
     hops: &mut [u8; LENT_HOPS],
 ) -> Result<usize, Refused>
-    requires { (words.old ≡ replicate lent_words 0) × (hops.old ≡ replicate lent_hops 0) }
     ensures { FilePlanned file.now (answer_of result) words.new hops.new }
 {
     plan_sized(sized_file(file)?, words, hops)
@@ -121,8 +107,6 @@ pub fn plan_rack(file: &[u8], words: &mut [u64], hops: &mut [u8]) -> Result<u32,
     let Some(hops) = hops.as_mut_array::<LENT_HOPS>() else {
         return Err(Refused::Lent);
     };
-    words.fill(0);
-    hops.fill(0);
     match plan_file(file, words, hops) {
         Ok(k) => Ok(k as u32),
         Err(refused) => {

@@ -3,10 +3,9 @@ use mathlib.Core.Path.{◌≡◌, ap, sym, ◌∙◌}
 use mathlib.Core.Bool.{cond}
 use mathlib.Core.Logic.{◌≢◌}
 use mathlib.Core.List.{List}
-use Prim.Native.Nat.{ℕ, ◌+◌, ◌*◌, ◌<◌}
+use Prim.Native.Nat.{ℕ, ◌<◌}
 use native.Mathlib.Omega.{arith}
 use lib.Dec.{eqb}
-use lib.ListN.{get_or}
 use borrow.Author.Tests.{eq-eqb, ne_eqb}
 use Rattle.rack.specs.Wiring.{Wiring, link_count, link_at}
 use Rattle.rack.specs.Hops.{hops}
@@ -14,15 +13,11 @@ use Rattle.rack.specs.WiringFile.{file_wiring}
 use Rattle.rack.specs.Refusals.{refusal, parity_refusal}
 use Rattle.rack.proofs.Refusals.{lowest_fault_none, lowest_fault_is}
 use Rattle.rack.specs.Formed.{Formed}
-use Rattle.survey.specs.Tables.{HopsIn}
-use Rattle.survey.proofs.Forms.{formed_count, formed_first, formed_second}
+use Rattle.survey.proofs.Forms.{formed_count}
 
 -- the ends of link i have different hops from card 0
 abbrev pub Uneven : Wiring → (i : ℕ) → Type 0
 Uneven w i = hops w 0 (link_at w i).first ≢ hops w 0 (link_at w i).second
-
-row_zero : (w : Wiring) (h : List ℕ) (c : ℕ) → HopsIn w h → c < w.cards → get_or h c 0 ≡ hops w 0 c
-row_zero w h c p l = let e : 256 * 0 + c ≡ c = omega arith in rw e at (p.is 0 c (omega arith) l)
 
 module _ (w : Wiring) where
   abbrev parity_number : (i : ℕ) → ℕ
@@ -42,17 +37,11 @@ module _ (w : Wiring) where
       let ten : parity_number i ≡ 10 = rw (eq-eqb (hops w 0 (link_at w i).first) (hops w 0 (link_at w i).second) e) in
       lowest_fault_is (link_count w) parity_number i l (λ j k. uneven_number j (before j k)) (λ z. omega arith) ∙ ap (λ (x : ℕ). refusal x i) ten
 
--- link i of a file, by what stands in the table at its ends
-module _ (bs h : List ℕ) (n m i p q : ℕ) (f : Formed bs n m) (t : HopsIn (file_wiring bs) h) (l : i < m)
-    (ep : p ≡ (link_at (file_wiring bs) i).first) (eq : q ≡ (link_at (file_wiring bs) i).second) where
-  first_level : get_or h p 0 ≡ hops (file_wiring bs) 0 (link_at (file_wiring bs) i).first
-  first_level = rw ep (row_zero (file_wiring bs) h (link_at (file_wiring bs) i).first t (formed_first bs n m f i l))
+-- link i of a file, by the hops from card 0 to its ends
+module _ (bs : List ℕ) (n m i p q x y : ℕ) (f : Formed bs n m) (l : i < m) (ep : p ≡ (link_at (file_wiring bs) i).first)
+    (eq : q ≡ (link_at (file_wiring bs) i).second) (ex : x ≡ hops (file_wiring bs) 0 p) (ey : y ≡ hops (file_wiring bs) 0 q) where
+  pub unequal_uneven : x ≢ y → Uneven (file_wiring bs) i
+  unequal_uneven ne = rw (← ep, ← eq) (λ e. ne (ex ∙ e ∙ sym ey))
 
-  second_level : get_or h q 0 ≡ hops (file_wiring bs) 0 (link_at (file_wiring bs) i).second
-  second_level = rw eq (row_zero (file_wiring bs) h (link_at (file_wiring bs) i).second t (formed_second bs n m f i l))
-
-  pub unequal_uneven : get_or h p 0 ≢ get_or h q 0 → Uneven (file_wiring bs) i
-  unequal_uneven ne e = ne (first_level ∙ e ∙ sym second_level)
-
-  pub equal_refusal : get_or h p 0 ≡ get_or h q 0 → ((j : ℕ) → j < i → Uneven (file_wiring bs) j) → parity_refusal (file_wiring bs) ≡ refusal 10 i
-  equal_refusal e before = even_lowest (file_wiring bs) i (omega (arith, formed_count bs n m f)) before (sym first_level ∙ e ∙ second_level)
+  pub equal_refusal : x ≡ y → ((j : ℕ) → j < i → Uneven (file_wiring bs) j) → parity_refusal (file_wiring bs) ≡ refusal 10 i
+  equal_refusal e before = even_lowest (file_wiring bs) i (omega (arith, formed_count bs n m f)) before (rw (← ep, ← eq) (sym ex ∙ e ∙ ey))

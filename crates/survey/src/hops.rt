@@ -9,6 +9,7 @@ ghost use Rattle.rack.specs.Refusals.{parity_refusal};
 ghost use Rattle.survey.specs.Tables.{HopsIn};
 ghost use Rattle.survey.specs.Lowering.{Above, Lowered, Passed, Started, Swept};
 
+use crate::measured::MeasuredFile;
 use rack::limits::{LENT_HOPS, MOST_CARDS, MOST_LINKS};
 use rack::refused::Refused;
 use rack::views::FormedFile;
@@ -124,12 +125,12 @@ pub fn all_hops(file: FormedFile<'_>, order: &[u16; MOST_LINKS], hops: &mut [u8;
 }
 
 // The lowest link whose ends have equal hops from card 0, with 10.
-pub fn parity_refusal(file: FormedFile<'_>, hops: &[u8; LENT_HOPS]) -> Result<(), Refused>
-    requires { HopsIn (file_wiring file.sized.bytes.now) hops.now }
-    ensures { RefusesWith (parity_refusal (file_wiring file.entry.sized.bytes.now)) result }
+pub fn parity_refusal(file: MeasuredFile<'_>) -> Result<(), Refused>
+    ensures { RefusesWith (parity_refusal (file_wiring file.entry.formed.sized.bytes.now)) result }
 {
-    for i in 0..file.sized.links {
-        if hops[file.first_end(i)] == hops[file.second_end(i)] {
+    let formed = file.formed;
+    for i in 0..formed.sized.links {
+        if file.between(0, formed.first_end(i)) == file.between(0, formed.second_end(i)) {
             return Err(Refused::OddLoop(i as u32));
         }
     }

@@ -14,4 +14,5 @@
 
 pub mod hops;
 pub mod links;
+pub mod measured;
 pub mod reach;

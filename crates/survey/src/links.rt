@@ -1,6 +1,5 @@
 // Refusals 2 to 8: a file's sizes, and each of its links.
-ghost use Rattle.std.specs.Prelude.{◌≡◌, ◌+◌, ◌<◌, IfOk, OnOk, replicate};
-ghost use Rattle.rack.specs.Limits.{lent_hops};
+ghost use Rattle.std.specs.Prelude.{◌≡◌, ◌+◌, ◌<◌, IfOk, OnOk};
 ghost use Rattle.rack.specs.Refused.{RefusesWith};
 ghost use Rattle.rack.specs.WiringFile.{file_wiring, sizes_fault};
 ghost use Rattle.rack.specs.Refusals.{link_fault, links_refusal, refusal};
@@ -64,15 +63,15 @@ fn link_fault(file: SizedFile<'_>, i: usize, marks: &mut [u8; LENT_HOPS]) -> Res
     Ok(())
 }
 
-// The file as one whose links join two different cards, or the lowest link in fault, with 6, 7 or 8. The marks are zero at entry.
+// The file as one whose links join two different cards, or the lowest link in fault, with 6, 7 or 8.
 pub fn formed_file<'a>(
     file: SizedFile<'a>,
     marks: &mut [u8; LENT_HOPS],
 ) -> Result<FormedFile<'a>, Refused>
-    requires { marks.old ≡ replicate lent_hops 0 }
     ensures refuses { RefusesWith (links_refusal (file_wiring file.entry.bytes.now)) result }
     ensures same { IfOk result (λ formed. formed.sized.bytes.now ≡ file.entry.bytes.now) }
 {
+    marks.fill(0);
     for i in 0..file.links {
         link_fault(file, i, marks)?;
     }

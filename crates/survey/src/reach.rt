@@ -1,6 +1,6 @@
 // Refusal 9: the cards that can be reached from card 0, by flags that spread over the links.
-ghost use Rattle.std.specs.Prelude.{◌≡◌, ◌≢◌, ℕ, ◌+◌, ◌<◌, ◌≤◌, MatchOption, replicate, slice_index};
-ghost use Rattle.rack.specs.Limits.{lent_hops, most_cards};
+ghost use Rattle.std.specs.Prelude.{◌≡◌, ◌≢◌, ℕ, ◌+◌, ◌<◌, ◌≤◌, MatchOption, slice_index};
+ghost use Rattle.rack.specs.Limits.{most_cards};
 ghost use Rattle.rack.specs.Refused.{RefusesWith};
 ghost use Rattle.rack.specs.WiringFile.{file_wiring};
 ghost use Rattle.rack.specs.Refusals.{reach_refusal};
@@ -53,11 +53,11 @@ fn spread_order(file: FormedFile<'_>, order: &[u16; MOST_LINKS], flags: &mut [u8
     }
 }
 
-// Flags every card that can be reached from card 0, in a buffer that is zero at entry. The order only saves passes.
+// Flags every card that can be reached from card 0. The order only saves passes.
 fn reach(file: FormedFile<'_>, order: &[u16; MOST_LINKS], flags: &mut [u8; LENT_HOPS])
-    requires { flags.old ≡ replicate lent_hops 0 }
     ensures { Reached (file_wiring file.entry.sized.bytes.now) flags.new }
 {
+    flags.fill(0);
     flags[0] = 1;
     spread_order(file, order, flags);
     loop {
@@ -75,13 +75,12 @@ fn first_unflagged(n: usize, flags: &[u8; LENT_HOPS]) -> Option<usize>
     flags[..n].iter().position(|flag| *flag == 0)
 }
 
-// The lowest card that can't be reached from card 0, with 9. The flags are zero at entry.
+// The lowest card that can't be reached from card 0, with 9.
 pub fn reach_refusal(
     file: FormedFile<'_>,
     order: &[u16; MOST_LINKS],
     flags: &mut [u8; LENT_HOPS],
 ) -> Result<(), Refused>
-    requires { flags.old ≡ replicate lent_hops 0 }
     ensures { RefusesWith (reach_refusal (file_wiring file.entry.sized.bytes.now)) result }
 {
     reach(file, order, flags);

@@ -1,7 +1,5 @@
 -- Sizes refuse first. Assumes nothing.
 use Rattle.std.proofs.lemmas.Result.{err_from_is_err_and}
-use Rattle.rack.specs.Limits.{lent_hops, lent_words}
-use Rattle.rack.proofs.Zeros.{zeros_long}
 use Rattle.planner.proofs.RackPlanned.{sizes_planned}
 use Rattle.planner.proofs.plan_file.Goals as goal
 
@@ -9,4 +7,4 @@ pub returns-in_err-sized_file : goal.returns-in_err-sized_file
 returns-in_err-sized_file c =
     let p = err_from_is_err_and c.from_residual.result c.from_residual.ensures.1 in
     rw (p.1, p.2)
-    (sizes_planned _ _ _ _ c.in_err-sized_file.ensures.refuses (zeros_long lent_words _ c.requires.0) (zeros_long lent_hops _ c.requires.1))
+    (sizes_planned _ _ _ _ c.in_err-sized_file.ensures.refuses c.told-words c.told-hops)

@@ -31,14 +31,6 @@ returns-in_default-as_mut_array c =
     (rw (ne_eqb (length z.hops.now) lent_hops c.in_default-as_mut_array.ensures.cases) (and-false (eqb (length z.words.now) lent_words)))) in
     record { says = says; found = λ a. addresses_found _ _ _ _ _ _ a says }
 
-pub plan_file-requires : goal.plan_file-requires
-plan_file-requires c =
-    let words = c.in-Some.ensures.cases in
-    let hops = c.in-Some-as_mut_array.ensures.cases in (
-      c.fill.ensures.after (λ y e. e) ∙ ap (λ (n : ℕ). replicate n 0) (ap length words.same ∙ words.long),
-      c.fill-2.ensures.after (λ y e. e) ∙ ap (λ (n : ℕ). replicate n 0) (ap length hops.same ∙ hops.long),
-    )
-
 pub overflow_cast-result : goal.overflow_cast-result
 overflow_cast-result c = omega (arith, columns_few _ _ _ _ c.in-Ok.ensures)
 
@@ -52,5 +44,5 @@ pub returns-in-Err : goal.returns-in-Err
 returns-in-Err c =
     let z = c.args in
     let says = plan_says_refused z.file.now _ z.words.now _ z.hops.now _ c.in-Some.ensures.cases.long c.in-Some-as_mut_array.ensures.cases.long
-    c.in-Err.ensures _ _ (refusal_numbered c.in-Err.refused) (c.fill-in-Err.ensures.after (λ y e. e)) (c.fill-in-Err-2.ensures.after (λ y e. e)) in
+    c.in-Err.ensures _ _ (refusal_numbered c.in-Err.refused) (c.fill.ensures.after (λ y e. e)) (c.fill-in-Err.ensures.after (λ y e. e)) in
     record { says = says; found = λ a. addresses_found _ _ _ _ _ _ a says }

@@ -1,11 +1,8 @@
 -- Links refuse; a file that passes them is formed. Assumes nothing.
-use mathlib.Core.Path.{ap, subst, ◌∙◌}
+use mathlib.Core.Path.{subst}
 use mathlib.Core.List.{List}
 use Prim.Native.Nat.{ℕ}
-use lib.ListN.{replicate}
 use Rattle.std.proofs.lemmas.Result.{err_from_is_err_and}
-use Rattle.rack.specs.Limits.{lent_words}
-use Rattle.rack.proofs.Zeros.{zeros_long}
 use Rattle.rack.specs.WiringFile.{file_wiring}
 use Rattle.planner.specs.Answer.{answer_of}
 use Rattle.planner.specs.Stages.{RackPlanned}
@@ -16,10 +13,7 @@ pub returns-in_err-formed : goal.returns-in_err-formed
 returns-in_err-formed c =
     let p = err_from_is_err_and c.from_residual.result c.from_residual.ensures.1 in
     rw (p.1, p.2)
-    (links_planned _ _ _ _ (sizes_clear _ _ _ c.args.file.sizes) c.in_err-formed.ensures.refuses (zeros_long lent_words _ c.requires.0) c.formed_file.array_long)
-
-pub plan_formed-requires : goal.plan_formed-requires
-plan_formed-requires c = (c.requires.0, c.fill.ensures.after (λ y e. e) ∙ ap (λ (n : ℕ). replicate n 0) c.formed_file.array_long)
+    (links_planned _ _ _ _ (sizes_clear _ _ _ c.args.file.sizes) c.in_err-formed.ensures.refuses c.told-words c.formed_file.array_long)
 
 pub returns : goal.returns
 returns c =

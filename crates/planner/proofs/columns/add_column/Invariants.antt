@@ -3,4 +3,4 @@ use Rattle.planner.specs.OpenColumns.{ColumnAdded}
 use Rattle.planner.proofs.columns.add_column.Given as goal
 
 abbrev pub invariant-loop-c : goal.invariant-loop-c
-invariant-loop-c l = ColumnAdded l.hops l.initial.words l.words l.p l.q l.k l.c
+invariant-loop-c l = ColumnAdded l.file.hops.now l.initial.words l.words l.p l.q l.k l.c

@@ -4,4 +4,4 @@ use Rattle.planner.specs.OpenColumns.{ColumnsOpened}
 use Rattle.planner.proofs.columns.open_columns.Given as goal
 
 abbrev pub invariant-loop-i : goal.invariant-loop-i
-invariant-loop-i l = ColumnsOpened (file_wiring l.file.sized.bytes.now) l.file.sized.cards l.i l.words l.k
+invariant-loop-i l = ColumnsOpened (file_wiring l.file.formed.sized.bytes.now) l.file.formed.sized.cards l.i l.words l.k

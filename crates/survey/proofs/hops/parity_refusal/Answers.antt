@@ -8,16 +8,23 @@ use Rattle.survey.proofs.Forms.{formed_count}
 use Rattle.survey.proofs.Levels.{Uneven, uneven_none, unequal_uneven, equal_refusal}
 use Rattle.survey.proofs.hops.parity_refusal.Goals as goal
 
-pub returns-then-hops-first_end : goal.returns-then-hops-first_end
-returns-then-hops-first_end c =
-    equal_refusal _ _ _ _ _ _ _ c.args.file.formed c.requires (omega arith) c.first_end.ensures.is c.second_end.ensures.is
-    c.if-hops-first_end.true c.loop-i.invariant
+pub returns-then-between : goal.returns-then-between
+returns-then-between c =
+    let p = c.first_end.ensures in
+    let q = c.second_end.ensures in
+    let f = c.args.file.formed.formed in
+    equal_refusal _ _ _ _ _ _ _ _ f (omega arith) p.is q.is (c.between.ensures.hops f.sizes.some p.card) (c.between-in-loop-i.ensures.hops f.sizes.some q.card)
+    c.if-between.true c.loop-i.invariant
 
 pub loop-i-preserved : goal.loop-i-preserved
 loop-i-preserved c =
-    below_more (Uneven (file_wiring c.args.file.sized.bytes.now)) c.loop-i.i c.loop-i.invariant
-    (unequal_uneven _ _ _ _ _ _ _ c.args.file.formed c.requires (omega arith) c.first_end.ensures.is c.second_end.ensures.is c.if-hops-first_end.false)
+    let p = c.first_end.ensures in
+    let q = c.second_end.ensures in
+    let f = c.args.file.formed.formed in
+    below_more (Uneven (file_wiring c.args.file.formed.sized.bytes.now)) c.loop-i.i c.loop-i.invariant
+    (unequal_uneven _ _ _ _ _ _ _ _ f (omega arith) p.is q.is (c.between.ensures.hops f.sizes.some p.card) (c.between-in-loop-i.ensures.hops f.sizes.some q.card)
+    c.if-between.false)
 
 pub returns : goal.returns
 returns c =
-    ap (λ (f : Refusal). f.number) (uneven_none _ (λ j l. c.loop-i.invariant j (omega (arith, formed_count _ _ _ c.args.file.formed))))
+    ap (λ (f : Refusal). f.number) (uneven_none _ (λ j l. c.loop-i.invariant j (omega (arith, formed_count _ _ _ c.args.file.formed.formed))))

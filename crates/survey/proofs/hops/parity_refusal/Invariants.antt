@@ -5,4 +5,4 @@ use Rattle.survey.proofs.Levels.{Uneven}
 use Rattle.survey.proofs.hops.parity_refusal.Given as goal
 
 abbrev pub invariant-loop-i : goal.invariant-loop-i
-invariant-loop-i l = ((j : ℕ) → j < l.i → Uneven (file_wiring l.file.sized.bytes.now) j)
+invariant-loop-i l = ((j : ℕ) → j < l.i → Uneven (file_wiring l.file.formed.sized.bytes.now) j)

@@ -10,7 +10,7 @@ use Rattle.survey.proofs.Marks.{none_marked}
 use Rattle.survey.proofs.links.formed_file.Goals as goal
 
 pub loop-i-init : goal.loop-i-init
-loop-i-init c = (none_marked _ _ c.requires, clear_none _)
+loop-i-init c = (none_marked _ _ (rw c.told-marks at (c.fill.ensures.after (λ y e. e))), clear_none _)
 
 pub loop-i-preserved : goal.loop-i-preserved
 loop-i-preserved c = (c.in_ok-link_fault.ensures.marks, clear_more _ _ c.loop-i.invariant.1 c.in_ok-link_fault.ensures.refuses)
