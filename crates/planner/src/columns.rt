@@ -13,12 +13,7 @@ fn words_differ(words: &[u64; LENT_WORDS], a: usize, b: usize) -> bool
     ensures differ { result ≡ true → SameWords words.now a b → ⊥ }
     ensures same { result ≡ false → SameWords words.now a b }
 {
-    for t in 0..4 {
-        if words[4 * a + t] != words[4 * b + t] {
-            return true;
-        }
-    }
-    false
+    (0..4).any(|t| words[4 * a + t] != words[4 * b + t])
 }
 
 // Whether card `c` is in the set without card 0 at a link from `p` to `q`.
@@ -29,7 +24,7 @@ fn side(file: MeasuredFile<'_>, p: usize, q: usize, c: usize) -> bool
     (file.between(c, p) < file.between(c, q)) != (file.between(0, p) < file.between(0, q))
 }
 
-// Adds column `k`, that of a link from `p` to `q`, to the words of the cards.
+// Adds column `k`, that of a link from `p` to `q`, to the words of the cards: a sum, since an `if` with `set_bit` would be a branch a card.
 fn add_column(
     file: MeasuredFile<'_>,
     p: usize,

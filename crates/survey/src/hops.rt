@@ -14,7 +14,8 @@ use rack::limits::{LENT_HOPS, MOST_CARDS, MOST_LINKS};
 use rack::refused::Refused;
 use rack::views::FormedFile;
 
-// Lowers row `to` to one more than row `by` where that is less; gives the most that was taken off at one place.
+// Lowers row `to` to one more than row `by` where that is less; gives the most that was taken off at one place. A number and no flag, here
+// and in the two functions below: the sum of the bounds falls by as much at least, and so the loop of `settle` ends.
 fn lower_row(bounds: &mut [u8; LENT_HOPS], to: usize, by: usize) -> u8
     requires { (to < most_cards) × (by < most_cards) }
     ensures { Lowered bounds.old bounds.new to by most_cards result }
@@ -29,7 +30,8 @@ fn lower_row(bounds: &mut [u8; LENT_HOPS], to: usize, by: usize) -> u8
     off
 }
 
-// Lowers the rows of the ends of link `i`, each to one more than the other.
+// Lowers the rows of the ends of link `i`, each to one more than the other. Lent bounds and their fact, here and below, and no struct over
+// the two: each of its methods would have to ensure that the struct has the same bounds and file as before, two clauses for this one.
 fn lower_link(file: FormedFile<'_>, i: usize, bounds: &mut [u8; LENT_HOPS]) -> u8
     requires { (i < file.sized.links) × Above (file_wiring file.sized.bytes.now) bounds.old }
     ensures { Passed (file_wiring file.entry.sized.bytes.now) bounds.old bounds.new i (i + 1) result }
@@ -94,7 +96,7 @@ fn settle(file: FormedFile<'_>, order: &[u16; MOST_LINKS], bounds: &mut [u8; LEN
 }
 
 // Fills row `a` with what is known of the hops from card `a` of `n` before any link was looked at: fewer than n to another card, none to
-// itself. The row is zero at entry.
+// itself. The row is zero at entry: the table is filled once, in front of the loop.
 fn start_row(n: usize, a: usize, bounds: &mut [u8; LENT_HOPS])
     requires { (n ≤ most_cards) × (a < n) × Started n bounds.old a }
     ensures { Started n bounds.new (a + 1) }

@@ -10,7 +10,8 @@ use rack::limits::{LENT_HOPS, MOST_LINKS};
 use rack::refused::Refused;
 use rack::views::FormedFile;
 
-// Flags the other end of link `i` where just one end is flagged; gives how many flags are new.
+// Flags the other end of link `i` where just one end is flagged; gives how many flags are new. A number and no flag, here and in
+// `spread_pass`: there are so many flags more, of 256 at most, and so the loop of `reach` ends. Lent flags and no struct, as in `hops`.
 fn spread_link(file: FormedFile<'_>, i: usize, flags: &mut [u8; LENT_HOPS]) -> usize
     requires { (i < file.sized.links) × Flagged (file_wiring file.sized.bytes.now) flags.old }
     ensures { Spread (file_wiring file.entry.sized.bytes.now) flags.old flags.new i (i + 1) result }
