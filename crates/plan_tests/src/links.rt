@@ -1,25 +1,25 @@
 // Refusals 6 to 8 of the links inside a plan. Two links may join the same two cards: the first sets the mark of its ends in the order in
 // which it names them, and where that one is set, the mark in the other order.
-ghost use Rattle.std.specs.Prelude.{◌≡◌, true, ◌+◌, ◌<◌, eqb, replicate};
+ghost use Rattle.std.specs.Prelude.{◌≡◌, true, not, ◌+◌, ◌<◌, eqb, replicate};
 ghost use Rattle.rack.specs.Limits.{lent_words, most_cards};
 ghost use Rattle.rack.specs.Refusals.{link_fault, links_refusal};
 ghost use Rattle.rack.specs.PlanFile.{plan_wiring};
-ghost use Rattle.plan_tests.specs.Marks.{MarkSet, LinksMarked};
+ghost use Rattle.rack.specs.Words.{BitSet, word_bit};
+ghost use Rattle.plan_tests.specs.Marks.{LinksMarked};
 
 use rack::limits::LENT_WORDS;
 use rack::views::Plan;
+use rack::words::{set_bit, word_bit};
 
 // Sets the mark of cards `a` and `b`, in this order; whether it was free.
 fn set_mark(marks: &mut [u64; LENT_WORDS], a: usize, b: usize) -> bool
     requires { (a < most_cards) × (b < most_cards) }
-    ensures { MarkSet a b marks.old marks.new result }
+    ensures free { result ≡ not (word_bit marks.old a b) }
+    ensures set { BitSet a b marks.old marks.new }
 {
-    let at = 4 * a + b / 64;
-    if (marks[at] >> (b % 64)) % 2 == 1 {
-        return false;
-    }
-    marks[at] += 1u64 << (b % 64);
-    true
+    let free = !word_bit(marks, a, b);
+    set_bit(marks, a, b);
+    free
 }
 
 // Whether none of 6 to 8 applies to link `i`, which is marked then.

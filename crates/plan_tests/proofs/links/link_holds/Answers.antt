@@ -48,7 +48,7 @@ free c =
     let many = c.args.plan.sized.few in
     rw c.if-set_mark.true (first_free _ c.args.i c.first_end-p.result c.second_end-q.result c.first_end-p.ensures.is c.second_end-q.ensures.is
     (omega arith) (omega arith) c.if-p-q.false _ c.requires.1 (inside _ _ _ _ c.args.plan.sized c.args.i c.requires.0) (omega arith) (omega arith) _
-    (rw c.if-set_mark.true at c.set_mark.ensures))
+    (rw c.if-set_mark.true at c.set_mark.ensures.free) c.set_mark.ensures.set)
 
 taken : (c : After-set_mark-else-set_mark) → Holds c.args.plan.bytes.now c.args.i c.set_mark-else-set_mark.result c.set_mark-else-set_mark.new.marks
 taken c =
@@ -56,7 +56,8 @@ taken c =
     let many = c.args.plan.sized.few in
     second_free _ c.args.i c.first_end-p.result c.second_end-q.result c.first_end-p.ensures.is c.second_end-q.ensures.is
     (omega arith) (omega arith) c.if-p-q.false _ c.requires.1 (inside _ _ _ _ c.args.plan.sized c.args.i c.requires.0) (omega arith) (omega arith) _ _
-    (rw c.if-set_mark.false at c.set_mark.ensures) _ c.set_mark-else-set_mark.ensures
+    (rw c.if-set_mark.false at c.set_mark.ensures.free) c.set_mark.ensures.set _
+    c.set_mark-else-set_mark.ensures.free c.set_mark-else-set_mark.ensures.set
 
 pub returns-then-set_mark-clause-is : goal.returns-then-set_mark-clause-is
 returns-then-set_mark-clause-is c = (free c).0
