@@ -1,11 +1,13 @@
 // A label for the column of each link, card by card breadth first, and the addresses that the labels give. A label is a number from 1 to 255:
 // the place in the queue of the card that opens it.
-use crate::sets::{self, has, insert_above, lowest_apart, many_apart};
+use crate::sets::{self, insert_above, lowest_apart, many_apart};
+use arrayvec::ArrayVec;
 use link_order::breadth::Breadth;
 use link_order::lists::Entry;
-use link_order::queue::Queue;
 use rack::limits::{LENT_WORDS, MOST_CARDS, MOST_COLUMNS, MOST_LINKS};
 use rack::views::SizedFile;
+use rack::words::word_bit;
+use std::iter;
 
 // The label of each link, the labels of each card, and the entry of each card that leads to the card before it.
 #[derive(Drop)]
@@ -13,7 +15,7 @@ pub struct Labels<'a> {
     file: SizedFile<'a>,
     of_links: [Option<u8>; MOST_LINKS],
     sets: [u64; LENT_WORDS],
-    ups: [Entry; MOST_CARDS],
+    ups: [Option<Entry>; MOST_CARDS],
 }
 
 // The first entry of a card that leads to a card of fewer hops, or with `last` the last one.
@@ -38,7 +40,7 @@ impl<'a> Labels<'a> {
             file,
             of_links: [None; MOST_LINKS],
             sets: [0; LENT_WORDS],
-            ups: [Entry { link: 0, card: 0 }; MOST_CARDS],
+            ups: [None; MOST_CARDS],
         }
     }
 
@@ -47,50 +49,45 @@ impl<'a> Labels<'a> {
         self.of_links[usize::from(entry.link)]
     }
 
-    // The entry of a card that leads to the card before it.
-    fn up_of(&self, card: u8) -> Entry {
+    // The entry of a card that leads to the card before it, none for card 0.
+    fn up_of(&self, card: u8) -> Option<Entry> {
         self.ups[usize::from(card)]
     }
 
     // Puts a label in place of another everywhere.
     fn rename(&mut self, old: u8, new: u8) {
         for c in 0..self.file.cards {
-            sets::rename(&mut self.sets, c as u8, old, new);
+            sets::rename(&mut self.sets, c, old, new);
         }
         for label in &mut self.of_links[..self.file.links] {
             *label = label.map(|x| if x == old { new } else { x });
         }
     }
 
-    // The labels on the way from card `from` up to card 0 that card `other` has not.
-    fn labels_up(&self, from: u8, other: u8, found: &mut Queue) {
-        let mut card = from;
-        for _ in 0..MOST_CARDS {
-            if card == 0 {
-                return;
-            }
-            let up = self.up_of(card);
+    // The labels on the way from card `from` up to card 0 that card `other` has not. No way has more links than there is room for.
+    fn labels_up(&self, from: u8, other: u8) -> ArrayVec<u8, MOST_CARDS> {
+        let mut found = ArrayVec::new();
+        let way = iter::successors(self.up_of(from), |up| self.up_of(up.card));
+        for up in way.take(MOST_CARDS) {
             if let Some(label) = self.label_of(up)
-                && !has(&self.sets, other, label)
+                && !word_bit(&self.sets, usize::from(other), usize::from(label))
             {
-                found.push(label);
+                let _ = found.try_push(label);
             }
-            card = up.card;
         }
+        found
     }
 
     // Closes the loop of the ways from card 0 to `p` and `q`: all labels that part the two but the topmost of each way are renamed, those of
     // the one way to those of the other in reversed order. None where the ways have not as many.
     fn close_loop(&mut self, p: u8, q: u8) -> Option<()> {
-        let mut left = Queue::empty();
-        let mut right = Queue::empty();
-        self.labels_up(p, q, &mut left);
-        self.labels_up(q, p, &mut right);
-        if left.numbers().len() != right.numbers().len() {
+        let left = self.labels_up(p, q);
+        let right = self.labels_up(q, p);
+        if left.len() != right.len() {
             return None;
         }
-        let opposite = right.numbers().iter().rev().skip(1);
-        for (old, new) in left.numbers().iter().zip(opposite) {
+        let opposite = right.iter().rev().skip(1);
+        for (old, new) in left.iter().zip(opposite) {
             self.rename(*old, *new);
         }
         Some(())
@@ -135,10 +132,9 @@ impl<'a> Labels<'a> {
         for (opened, card) in (1..=u8::MAX).zip(met.cards().iter().skip(1)) {
             let up = entry_up(met, *card, last)?;
             self.label_ups(met, *card, up)?;
-            let label = self.label_of(up).unwrap_or(opened);
-            self.of_links[usize::from(up.link)] = Some(label);
+            let label = *self.of_links[usize::from(up.link)].get_or_insert(opened);
             insert_above(&mut self.sets, *card, up.card, label);
-            self.ups[usize::from(*card)] = up;
+            self.ups[usize::from(*card)] = Some(up);
         }
         Some(())
     }
@@ -166,9 +162,9 @@ impl<'a> Labels<'a> {
         let mut columns = [None; 256];
         let k = self.number_labels(&mut columns);
         words.fill(0);
-        for card in cards.iter().skip(1) {
-            let up = self.up_of(*card);
-            if let Some(label) = self.label_of(up)
+        for card in cards {
+            if let Some(up) = self.up_of(*card)
+                && let Some(label) = self.label_of(up)
                 && let Some(column) = columns[usize::from(label)]
             {
                 insert_above(words, *card, up.card, column);

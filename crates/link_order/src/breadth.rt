@@ -1,6 +1,6 @@
 // The cards breadth first from card 0, each with its hops from there and its entries. Nothing is claimed of them.
 use crate::lists::Lists;
-use crate::queue::Queue;
+use arrayvec::ArrayVec;
 use rack::limits::MOST_CARDS;
 use rack::views::SizedFile;
 
@@ -8,7 +8,7 @@ use rack::views::SizedFile;
 #[derive(Drop)]
 pub struct Breadth {
     pub lists: Lists,
-    queue: Queue,
+    queue: ArrayVec<u8, MOST_CARDS>,
     hops: [Option<u8>; MOST_CARDS],
 }
 
@@ -20,7 +20,7 @@ impl Breadth {
     pub fn empty() -> Self {
         Breadth {
             lists: Lists::empty(),
-            queue: Queue::empty(),
+            queue: ArrayVec::new(),
             hops: [None; MOST_CARDS],
         }
     }
@@ -29,7 +29,7 @@ impl Breadth {
     pub fn cards(&self) -> &[u8]
         ensures { length result.now ≤ most_cards }
     {
-        self.queue.numbers()
+        self.queue.as_slice()
     }
 
     // The hops of a card.
@@ -37,11 +37,12 @@ impl Breadth {
         self.hops[usize::from(card)]
     }
 
-    // Lists the links of a file, and meets all cards to which they lead from card 0. Nothing is listed or met at entry.
+    // Lists the links of a file, and meets all cards to which they lead from card 0, each once, so that there is room. Nothing is listed or
+    // met at entry.
     pub fn meet_all(&mut self, file: SizedFile<'_>) {
         self.lists.list_all(file);
         self.hops[0] = Some(0);
-        self.queue.push(0);
+        let _ = self.queue.try_push(0);
         for head in 0..MOST_CARDS {
             let Some(&card) = self.cards().get(head) else {
                 return;
@@ -51,7 +52,7 @@ impl Breadth {
                 let hops = &mut self.hops[usize::from(entry.card)];
                 if hops.is_none() {
                     *hops = Some(further);
-                    self.queue.push(entry.card);
+                    let _ = self.queue.try_push(entry.card);
                 }
             }
         }
