@@ -1,13 +1,11 @@
 -- The listing from what planning answered and left in the words, and what the call says of it. Assumes nothing.
-use mathlib.Core.Path.{◌≡◌, refl, sym, ap, ap₂, ◌∙◌}
+use mathlib.Core.Path.{◌≡◌, refl, sym, ap₂}
 use mathlib.Core.Logic.{◌≢◌}
 use mathlib.Core.List.{List, []}
 use Prim.Native.Nat.{ℕ, ◌≤◌, ◌<◌}
 use native.Mathlib.Omega.{arith}
-use Rattle.std.specs.Prelude.{Result, Ok, Err}
-use Rattle.std.specs.Result.{result_unwrap_or}
-use lib.Seq.{take-append_seam}
-use lib.ListN.{length, take, replicate, length-replicate}
+use Rattle.std.specs.Prelude.{Ok, Err}
+use lib.ListN.{length, replicate}
 use borrow.Author.Tests.{eq-eqb, ne_eqb}
 use Rattle.rack.specs.Limits.{most_columns}
 use Rattle.rack.specs.Wiring.{Wiring, link_count}
@@ -15,14 +13,13 @@ use Rattle.rack.specs.Columns.{columns, column_count, address}
 use Rattle.rack.specs.Refusals.{refusal}
 use Rattle.rack.specs.Refused.{refusal_of}
 use Rattle.rack.specs.declared.refused.Refused.{Refused}
-use Rattle.rack.specs.Buffers.{number_at}
+use Rattle.rack.specs.Buffers.{number_at, Written}
 use Rattle.rack.specs.WiringFile.{file_wiring, file_refusal}
 use Rattle.rack.proofs.Tables.{tabulate_ext, blocks_ext}
 use Rattle.rack.proofs.Accepted.{file_clear}
 use Rattle.rack.proofs.RefusalNumbers.{refusal_numbered}
 use Rattle.rack.proofs.WiringFile.{Sized, wiring_at_cards, wiring_at_count}
 use Rattle.planner.specs.OpenColumns.{bit_in, WordsOf}
-use Rattle.planner.specs.Planning.{AnswerIs, left_in}
 use Rattle.rack.specs.Words.{word_bit}
 use Rattle.planner.specs.Answer.{answer_of}
 use Rattle.planner.proofs.AddressWords.{word_bit_column}
@@ -74,6 +71,17 @@ module _ (bs : List ℕ) (k : ℕ) (ws : List ℕ) (p : Planned bs (answer_of (O
       rw (eq-eqb (file_refusal bs).number 0 accepted, en, em, ← (wiring_at_cards 4 bs), ← (wiring_at_count 4 bs), p.1.value refl)
       (rack_lines_words (file_wiring bs) ws (p.1.words refl) (accepted_sizes bs accepted).columns)
 
+-- THE TEXT that grew by the listing, in a buffer that was made zero
+module _ (bs : List ℕ) (a b : Text) (g : Grows a b (listing bs)) (start : a.length ≡ 0) where
+  pub listed_length : b.length ≡ length (listing bs)
+  listed_length = omega (arith, g.puts.place)
+
+  pub listed_inside : b.length ≤ lent_text
+  listed_inside = omega (arith, listed_length, listing_fits bs)
+
+  pub listed_text : (n : ℕ) → a.bytes.now ≡ replicate n 0 → Written b.bytes.now (listing bs)
+  listed_text n e = g.puts.adds [] (sym start) (rw e (written_none n))
+
 -- WHAT THE CALL SAYS
 pub listing_says_one : (bs text : List ℕ) → length text ≢ lent_text → ListingSays bs (record { number = 1; at = 0; value = 0 }) text text
 unfolding listing_refusal
@@ -83,40 +91,11 @@ listing_says_one bs text t =
       text_left = sym (left_untouched (listing bs) text);
     }
 
--- the text that grew by the listing, in a buffer that was made zero
-module _ (bs text now : List ℕ) (a b : Text) (room : length text ≡ lent_text) (g : Grows a b (listing bs)) (start : a.length ≡ 0) where
-  pub listed_length : b.length ≡ length (listing bs)
-  listed_length = omega (arith, g.puts.place)
-
-  pub listed_inside : b.length ≤ lent_text
-  listed_inside = omega (arith, listed_length, listing_fits bs)
-
-  pub listing_says_text : a.bytes.now ≡ replicate (length text) 0 → now ≡ b.bytes.now → ListingSays bs (record { number = 0; at = 0; value = b.length }) text now
-  unfolding listing_refusal
-  listing_says_text e is =
-      let written = g.puts.adds [] (sym start) (rw e (written_none (length text))) in
-      let l : length now ≡ length text = omega (arith, ap length is, g.room, ap length e, length-replicate {A = ℕ} (length text) 0) in
-      record {
-        answer = rw (eq-eqb (length text) lent_text room) (record { number = refl; at = refl; value = listed_length });
-        text_left = left_filled 0 (listing bs) text now refl l (rw is written.is);
-      }
-
--- IN A BUFFER of its length the value is the listing's, which the text begins with
-value_of : (r : Result ℕ Refused) → result_unwrap_or r 0 ≡ (answer_of r).value
-value_of (Ok v) = refl
-value_of (Err e) = refl
-
-module _ (bs : List ℕ) (r : Result ℕ Refused) (text now : List ℕ) (room : length text ≡ lent_text) (s : ListingSays bs (answer_of r) text now) where
-  is_answer : AnswerIs (refusal 0 0) (length (listing bs)) (answer_of r)
-  unfolding listing_refusal
-  is_answer = rw (eq-eqb (length text) lent_text room) at s.answer
-
-  pub says_length : result_unwrap_or r 0 ≡ length (listing bs)
-  says_length = value_of r ∙ is_answer.value
-
-  pub says_fit : result_unwrap_or r 0 ≤ lent_text
-  says_fit = omega (arith, says_length, listing_fits bs)
-
-  pub says_front : take (result_unwrap_or r 0) now ≡ listing bs
-  unfolding left_in
-  says_front = rw (s.text_left, is_answer.number, says_length) (take-append_seam (listing bs) _)
+pub listing_says_text : (bs text now : List ℕ) (n : ℕ) → length text ≡ lent_text → length now ≡ length text → n ≡ length (listing bs) → Written now (listing bs)
+    → ListingSays bs (record { number = 0; at = 0; value = n }) text now
+unfolding listing_refusal
+listing_says_text bs text now n room l e w =
+    record {
+      answer = rw (eq-eqb (length text) lent_text room) (record { number = refl; at = refl; value = e });
+      text_left = left_filled 0 (listing bs) text now refl l w.is;
+    }

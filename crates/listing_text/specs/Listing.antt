@@ -1,5 +1,5 @@
 -- The listing of a wiring file, line by line, in the codes of its text. Assumes nothing: these are definitions.
-use Rattle.std.specs.Prelude.{◌≡◌, Bool, ◌||◌, cond, List, [], ◌++◌, ℕ, ◌≤◌, eqb, length}
+use Rattle.std.specs.Prelude.{◌≡◌, Bool, ◌||◌, cond, List, [], ◌++◌, ℕ, ◌≤◌, eqb, length, codes}
 use Rattle.rack.specs.Limits.{most_cards, most_links, most_columns}
 use Rattle.rack.specs.Lists.{one, tabulate, blocks}
 use Rattle.rack.specs.Wiring.{Wiring, link_count}
@@ -8,7 +8,6 @@ use Rattle.rack.specs.Refusals.{Refusal, refusal}
 use Rattle.rack.specs.WiringFile.{file_wiring, file_refusal}
 use Rattle.planner.specs.Planning.{AnswerIs, left_in}
 use Rattle.planner.specs.Answer.{Answer}
-use Rattle.text.specs.Codes.{codes}
 use Rattle.text.specs.Decimals.{digit_code, decimal}
 
 -- the sizes of a rack that is listed

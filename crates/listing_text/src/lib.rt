@@ -2,6 +2,7 @@
 #![tactic(auto)]
 
 ghost use Rattle.std.specs.Prelude.{◌≡◌, ◌+◌, ◌≤◌, length};
+ghost use Rattle.rack.specs.Buffers.{Written};
 ghost use Rattle.planner.specs.Answer.{answer_of};
 ghost use Rattle.text.specs.Putting.{Grows};
 ghost use Rattle.listing_text.specs.Listing.{listing, ListingSays};
@@ -10,14 +11,14 @@ ghost use Rattle.listing_text.specs.Planned.{Planned};
 use lines::{Rack, put_rack, put_refused};
 use planner::plan_file;
 use rack::bytes::number_at;
-use rack::limits::{LENT_HOPS, LENT_WORDS};
+use rack::limits::{LENT_HOPS, LENT_WORDS, MOST_CARDS, MOST_COLUMNS};
 use rack::refused::Refused;
 use text::put::Text;
 
 mod lines;
 
-// The length of the lent buffer.
-pub const LENT_TEXT: usize = 67873;
+// The length of the lent buffer: room for the three lines of sizes, 33 bytes, and for a line of each card, 10 bytes and its columns.
+pub const LENT_TEXT: usize = 33 + MOST_CARDS * (10 + MOST_COLUMNS);
 
 // Appends the listing of a planned file.
 fn put_listing(
@@ -43,13 +44,11 @@ fn put_listing(
     }
 }
 
-// Writes the listing of a wiring file; gives its length. Refuses with 1 where the buffer has not 67,873 bytes.
-pub fn listing_text(file: &[u8], text: &mut [u8]) -> Result<u32, Refused>
-    ensures { ListingSays file.now (answer_of result) text.old text.new }
+// Writes the listing of a wiring file, with zeros behind it; gives its length.
+pub fn put_listing_text(file: &[u8], text: &mut [u8; LENT_TEXT]) -> u32
+    ensures length { result ≡ length (listing file.now) }
+    ensures text { Written text.new (listing file.now) }
 {
-    if text.len() != LENT_TEXT {
-        return Err(Refused::Lent);
-    }
     text.fill(0);
     let mut words = [0u64; LENT_WORDS];
     let mut hops = [0u8; LENT_HOPS];
@@ -59,5 +58,15 @@ pub fn listing_text(file: &[u8], text: &mut [u8]) -> Result<u32, Refused>
         length: 0,
     };
     put_listing(&mut lines, file, plan, &words);
-    Ok(lines.length as u32)
+    lines.length as u32
+}
+
+// The same into a lent buffer. Refuses with 1 where it has not 67,873 bytes.
+pub fn listing_text(file: &[u8], text: &mut [u8]) -> Result<u32, Refused>
+    ensures { ListingSays file.now (answer_of result) text.old text.new }
+{
+    let Some(text) = text.as_mut_array::<LENT_TEXT>() else {
+        return Err(Refused::Lent);
+    };
+    Ok(put_listing_text(file, text))
 }

@@ -1,13 +1,13 @@
 // Tests that the fixed words of a listing stand in their places: those of the ring of four, of the triangle and of two cards apart.
 #![tactic(auto)]
 
-use listing_text::{LENT_TEXT, listing_text};
+use listing_text::{LENT_TEXT, put_listing_text};
 use std::io;
 
 // Says of each word whether it stands at its place in the listing of a file.
 fn say_words(rt: &impl Print, file: &[u8], words: &[(usize, &str)]) -> io::Result<()> {
     let mut text = [0u8; LENT_TEXT];
-    let _ = listing_text(file, &mut text);
+    put_listing_text(file, &mut text);
     for (at, word) in words {
         let found = text
             .get(*at..)

@@ -1,5 +1,5 @@
 -- What a row of the table of cases says: a wiring file, a plan file, and claims of the two. Assumes nothing: these are definitions.
-use Rattle.std.specs.Prelude.{Bool, true, false, ◌&&◌, not, cond, List, [], ◌∷◌, ◌++◌, map, ℕ, ◌+◌, ◌*◌, ◌-◌, ltb, eqb, length, get_or, set, replicate}
+use Rattle.std.specs.Prelude.{Bool, true, false, ◌&&◌, not, cond, List, [], ◌∷◌, ◌++◌, map, ℕ, ◌+◌, ◌*◌, ◌-◌, ltb, eqb, length, get_or, set, replicate, codes}
 use Prim.Native.String.{String}
 use Rattle.std.specs.Int.Bits.{bit_xor}
 use Rattle.rack.specs.Limits.{most_callers, most_traffic, lent_plan}
@@ -27,7 +27,6 @@ use Rattle.plan_totals.specs.Summed.{plan_total, total_refusal}
 use Rattle.plan_changer.specs.Changing.{add_refusal}
 use Rattle.last_card.specs.Calls.{add_card_refusal, take_off_refusal}
 use Rattle.carried.specs.Carried.{carried_bytes, address_refusal_with, conference_refusal_with}
-use Rattle.text.specs.Codes.{codes}
 use Rattle.listing_text.specs.Listing.{column_digit, listing}
 
 -- BYTES in hexadecimal, as docs/REQUIREMENTS.md writes them: "04 00 0a"

@@ -1,35 +1,33 @@
--- At most 8,197 bytes were read, and the lent text has its length, so what stands at its front is their listing. Assumes nothing.
-use Rattle.std.proofs.Common.{arith, ◌≡◌, ◌≤◌, ℕ, List, length, take, refl, sym, ap, ◌∙◌, subst, length-take-le}
+-- At most 8,197 bytes were read, and what stands at the front of the text is their listing. Assumes nothing.
+use Rattle.std.proofs.Common.{arith, ◌≡◌, ◌≤◌, ℕ, List, length, take, sym, ap, ◌∙◌, subst, length-take-le}
 use Rattle.std.specs.Prelude.{IsTrue}
 use Rattle.std.specs.Io.KnownBytes.{Appends, IsAtEnd}
 use mathlib.Core.Logic.{inl, inr, ◌⊎◌}
+use lib.Seq.{take-append_seam}
 use Rattle.listing_text.specs.Listing.{listing}
-use Rattle.listing_text.proofs.Listings.{says_length, says_fit, says_front}
 use Rattle.listing_io.specs.Input.{most_input}
 use Rattle.listing_io.proofs.list_wiring.Goals as goal
 
 pub slice_bounds-text-end : goal.slice_bounds-text-end
 slice_bounds-text-end g c =
-    let listed = c.listing_text in
-    omega (arith, c.unwrap_or-length.ensures, says_fit _ listed.result _ _ refl listed.ensures, listed.auto.text)
+    let listed = c.put_listing_text-length.ensures in
+    omega (arith, listed.length, listed.text.within)
 
 pub slice_bounds-write_front-end : goal.slice_bounds-write_front-end
 slice_bounds-write_front-end g c =
-    let listed = c.listing_text in
-    sym (length-take-le c.unwrap_or-length.result listed.new.text
-    (omega (arith, c.unwrap_or-length.ensures, says_fit _ listed.result _ _ refl listed.ensures, listed.auto.text)))
+    let listed = c.put_listing_text-length in
+    sym (length-take-le listed.result listed.new.text (omega (arith, listed.ensures.length, listed.ensures.text.within)))
 
 pub returns : goal.returns
 returns g c =
     let read = c.read_front-taken in
-    let listed = c.listing_text in
-    let value = c.unwrap_or-length in
+    let listed = c.put_listing_text-length in
     let written = c.write_front-written in
     let bs = take read.result.count read.new.file in
-    let says : value.result ≡ length (listing bs) = value.ensures ∙ says_length _ _ _ _ refl listed.ensures in
-    let front : take value.result listed.new.text ≡ listing bs = rw value.ensures (says_front _ _ _ _ refl listed.ensures) in
+    let says = listed.ensures.length in
+    let front : take listed.result listed.new.text ≡ listing bs = rw (listed.ensures.text.is, says) (take-append_seam (listing bs) _) in
     let size : length bs ≡ read.result.count = length-take-le read.result.count read.new.file read.ensures.room in
-    let inside : written.result ≤ value.result = omega (arith, written.ensures.room, ap length front, says) in
+    let inside : written.result ≤ listed.result = omega (arith, written.ensures.room, ap length front, says) in
     let left = g.R.Read.remaining read.new.input in
     let all : IsTrue read.result.is_read → (length bs ≡ most_input) ⊎ IsAtEnd left =
     λ t. elim (read.ensures.whole t) [ inl h ↦ inl (size ∙ h ∙ read.auto.file) | inr h ↦ inr h ] in
