@@ -8,9 +8,9 @@ use std::io;
 fn say_words(rt: &impl Print, file: &[u8], words: &[(usize, &str)]) -> io::Result<()> {
     let mut text = [0u8; LENT_TEXT];
     put_listing_text(file, &mut text);
-    for (at, word) in words {
+    for &(at, word) in words {
         let found = text
-            .get(*at..)
+            .get(at..)
             .is_some_and(|rest| rest.starts_with(word.as_bytes()));
         println!(rt; "{word}: {}in its place", if found { "" } else { "not " })?;
     }
