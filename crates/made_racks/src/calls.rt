@@ -2,7 +2,7 @@
 use crate::say::{Said, sum};
 use crossing::{FrameStep, FrameWalk, step_frame, walk_frame};
 use forwarder::step::Step;
-use forwarder::walk::Tally;
+use forwarder::walk::{LENT_MET, Tally};
 use planner::{plan_rack, write_plan};
 use reader::read::{card_address, read_plan};
 use std::io;
@@ -76,7 +76,7 @@ pub fn walked(
 
 // The counts after one more frame.
 fn counted(plan: &[u8], from: u32, goal: u32, tally: Tally) -> Tally {
-    let mut met = [7u16; 256];
+    let mut met = [7u16; LENT_MET];
     match walk_frame(plan, from, goal, tally, &mut met) {
         Ok(walk) => walk.walked.tally,
         Err(_) => tally,

@@ -1,5 +1,6 @@
 // Lent buffers of any length, that are not zero.
-ghost use Rattle.std.specs.Prelude.{◌≤◌};
+ghost use Rattle.std.specs.Prelude.{◌+◌, ◌≤◌};
+ghost use Rattle.rack.specs.Limits.{lent_hops, lent_words};
 
 use crate::calls::{planned, written};
 use crate::lines::{cell, number_to};
@@ -8,11 +9,11 @@ use rack::limits::{LENT_HOPS, LENT_PLAN, LENT_WORDS};
 use std::io;
 
 // One byte more than the hops need.
-const MORE_HOPS: usize = 65537;
+const MORE_HOPS: usize = LENT_HOPS + 1;
 
 // Planning with `w` words and `h` bytes of hops lent.
 fn planned_in(rt: &impl Print, file: &[u8], w: usize, h: usize) -> io::Result<()>
-    requires { (w ≤ 1024) × (h ≤ 65537) }
+    requires { (w ≤ lent_words) × (h ≤ lent_hops + 1) }
 {
     let mut words = [7u64; LENT_WORDS];
     let mut hops = [7u8; MORE_HOPS];

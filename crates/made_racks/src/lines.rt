@@ -1,7 +1,8 @@
 // The cells of a line of the cases, which `|` parts.
 ghost use Rattle.std.specs.Prelude.{◌≤◌};
 
-// Cell `k` without the blanks around it; it is empty where there is none.
+// Cell `k` without the blanks around it; it is empty where there is none. Neither it nor its number is an option, since an empty cell of
+// the cases means just that.
 pub fn cell(line: &str, k: usize) -> &str {
     line.split('|').nth(k).unwrap_or("").trim()
 }

@@ -2,18 +2,21 @@
 use crate::calls::{addressed, read, stepped, walked};
 use crate::lines::{cell, number, number_to};
 use crate::shapes::ring;
-use forwarder::walk::Tally;
+use forwarder::walk::{LENT_MET, Tally};
 use planner::write_plan;
-use rack::limits::LENT_PLAN;
+use rack::limits::{LENT_PLAN, MOST_CARDS};
 use std::io;
+
+// One card more than a walk needs room for.
+const MORE_MET: usize = LENT_MET + 1;
 
 // The plan of a ring, with the byte at a place put anew if there is one.
 fn ring_plan(line: &str) -> [u8; LENT_PLAN] {
-    let n = number_to(line, 1, 256);
+    let n = number_to(line, 1, MOST_CARDS);
     let mut plan = [0u8; LENT_PLAN];
     let _ = write_plan(&ring(n)[..4 + 4 * n], &mut plan);
     if !cell(line, 2).is_empty() {
-        plan[number_to(line, 2, LENT_PLAN - 1)] = number_to(line, 3, 255) as u8;
+        plan[number_to(line, 2, LENT_PLAN - 1)] = number_to(line, 3, u8::MAX.into()) as u8;
     }
     plan
 }
@@ -24,7 +27,7 @@ pub fn changed(rt: &impl Print, line: &str) -> io::Result<()> {
     let plan = &bytes[..number_to(line, 4, LENT_PLAN)];
     let from = number(line, 5);
     let goal = number(line, 6);
-    let mut met = [7u16; 256];
+    let mut met = [7u16; LENT_MET];
     rt.print(cell(line, 7))?;
     read(rt, plan)?;
     stepped(rt, plan, from, goal)?;
@@ -40,8 +43,8 @@ pub fn walk(rt: &impl Print, line: &str) -> io::Result<()> {
         frames: number(line, 7),
         hops: number(line, 8),
     };
-    let mut met = [7u16; 257];
-    let room = number_to(line, 9, 257);
+    let mut met = [7u16; MORE_MET];
+    let room = number_to(line, 9, MORE_MET);
     rt.print(cell(line, 10))?;
     walked(
         rt,

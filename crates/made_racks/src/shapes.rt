@@ -1,10 +1,15 @@
 // Wirings by rules: the two ends of link `i` of a rack, and the wiring file of a whole rack.
 ghost use Rattle.std.specs.Prelude.{◌+◌, ◌<◌, ◌≤◌};
+ghost use Rattle.rack.specs.Limits.{most_cards, most_links};
 
 use rack::bytes::put_number;
+use rack::limits::MOST_LINKS;
 
-// A file of at most 2,049 links, with zeros behind it.
-pub const LENT_FILE: usize = 8200;
+// One link more than a rack may have.
+pub const MORE_LINKS: usize = MOST_LINKS + 1;
+
+// The two sizes, and two ends of two bytes for each link.
+pub const LENT_FILE: usize = 4 + 4 * MORE_LINKS;
 
 // How the cards are linked.
 #[derive(Clone, Copy)]
@@ -110,7 +115,7 @@ fn tree_link(n: usize, i: usize) -> (usize, usize)
 
 // The number of card `c` of `n` once the cards are mixed: a rule that takes each card once where 77 and `n` have no common divisor.
 fn mixed_card(n: usize, c: usize) -> usize {
-    if 65535 < c {
+    if usize::from(u16::MAX) < c {
         return 0;
     }
     rest(77 * c + 13, n)
@@ -118,7 +123,7 @@ fn mixed_card(n: usize, c: usize) -> usize {
 
 // Puts the two ends of link `i` of `m` into a file.
 pub fn put_link(file: &mut [u8; LENT_FILE], m: usize, i: usize, ends: (usize, usize))
-    requires { (i < 2049) × (m ≤ 2049) }
+    requires { (i ≤ most_links) × (m ≤ most_links + 1) }
 {
     put_number(file, 4 + 2 * i, ends.0);
     put_number(file, 4 + 2 * m + 2 * i, ends.1);
@@ -131,7 +136,7 @@ pub struct Shape {
     pub cards: usize,
     pub links: usize,
     pub is_mixed: bool,
-    pub ghost few: { links ≤ 2049 },
+    pub ghost few: { links ≤ most_links + 1 },
 }
 
 impl Shape {
@@ -182,7 +187,7 @@ impl Shape {
 
 // The wiring file of a ring, with zeros behind it.
 pub fn ring(n: usize) -> [u8; LENT_FILE]
-    requires { n ≤ 256 }
+    requires { n ≤ most_cards }
 {
     let shape = Shape {
         rule: Rule::Ring,

@@ -1,18 +1,19 @@
 // Wiring files, sound and faulty: each is planned, its plan is written, and if it was accepted, read and walked.
 ghost use Rattle.std.specs.Prelude.{◌<◌, ◌≤◌};
+ghost use Rattle.rack.specs.Limits.{most_cards};
 
 use crate::calls::{addressed, read, stepped, walked, walked_to_each, written};
 use crate::lent::planned_lent;
 use crate::lines::{cell, number, number_to};
-use crate::shapes::{LENT_FILE, Rule, Shape, put_link, ring};
-use forwarder::walk::Tally;
+use crate::shapes::{LENT_FILE, MORE_LINKS, Rule, Shape, put_link, ring};
+use forwarder::walk::{LENT_MET, Tally};
 use rack::bytes::put_number;
-use rack::limits::LENT_PLAN;
+use rack::limits::{LENT_PLAN, MOST_CARDS, MOST_LINKS};
 use std::io;
 
 // Reads a plan, walks one frame on it and one to each card, takes a step, and asks for an address.
 fn used(rt: &impl Print, plan: &[u8], n: u32, from: u32, goal: u32) -> io::Result<()> {
-    let mut met = [7u16; 256];
+    let mut met = [7u16; LENT_MET];
     let none = Tally { frames: 0, hops: 0 };
     read(rt, plan)?;
     walked(rt, plan, from, goal, none, &mut met)?;
@@ -38,10 +39,10 @@ pub fn rack(rt: &impl Print, line: &str) -> io::Result<()> {
     let Ok(rule) = Rule::try_from(cell(line, 1)) else {
         return Ok(());
     };
-    let links = number_to(line, 3, 2049);
+    let links = number_to(line, 3, MORE_LINKS);
     let shape = Shape {
         rule,
-        cards: number_to(line, 2, 65535),
+        cards: number_to(line, 2, u16::MAX.into()),
         links,
         is_mixed: cell(line, 4) == "mixed",
     };
@@ -56,19 +57,19 @@ pub fn rack(rt: &impl Print, line: &str) -> io::Result<()> {
 
 // The link in cell `k`, and its ends in the two behind it, put into the file of a ring of `n` cards.
 fn put_cells(file: &mut [u8; LENT_FILE], n: usize, line: &str, k: usize)
-    requires { (n ≤ 256) × (k < 100) }
+    requires { (n ≤ most_cards) × (k < 100) }
 {
-    let first = number_to(line, k + 1, 65535);
-    let second = number_to(line, k + 2, 65535);
-    put_link(file, n, number_to(line, k, 255), (first, second));
+    let first = number_to(line, k + 1, u16::MAX.into());
+    let second = number_to(line, k + 2, u16::MAX.into());
+    put_link(file, n, number_to(line, k, MOST_LINKS), (first, second));
 }
 
 // The first bytes of the file of a ring with another number of cards, and two links put anew.
 pub fn fault(rt: &impl Print, line: &str) -> io::Result<()> {
     rt.print(cell(line, 10))?;
-    let n = number_to(line, 1, 256);
+    let n = number_to(line, 1, MOST_CARDS);
     let mut file = ring(n);
-    put_number(&mut file, 0, number_to(line, 2, 65535));
+    put_number(&mut file, 0, number_to(line, 2, u16::MAX.into()));
     put_cells(&mut file, n, line, 4);
     put_cells(&mut file, n, line, 7);
     file_line(
