@@ -11,6 +11,7 @@ ghost use Rattle.listing_text.specs.Listing.{place_text, refused_text, SizesFit}
 
 use rack::limits::LENT_WORDS;
 use rack::refused::Refused;
+use rack::words::word_bit;
 use text::put::{Text, digit};
 
 // The sizes of a planned rack, and its addresses in words.
@@ -56,7 +57,7 @@ fn column_digit(words: &[u64; LENT_WORDS], c: usize, j: usize) -> u8
     requires { (c < most_cards) × (j < most_columns) }
     ensures { result ≡ column_digit (word_bit words.now c) j }
 {
-    digit(((words[4 * c + j / 64] >> (j % 64)) % 2) as u32)
+    digit(u32::from(word_bit(words, c, j)))
 }
 
 // Appends the columns of card `c`.
@@ -124,7 +125,8 @@ fn put_place(text: &mut Text<'_>, refused: Refused)
     }
 }
 
-// Appends the line of a refusal.
+// Appends the line of a refusal. Not by `write!` of the refusal, which does not promise to succeed where the room is enough, so the text's
+// end would be lost.
 pub fn put_refused(text: &mut Text<'_>, refused: Refused)
     requires { text.old.length + length (refused_text (refusal_of refused)) ≤ length text.old.bytes.now }
     ensures { Grows text.old text.new (refused_text (refusal_of refused)) }

@@ -1,5 +1,5 @@
 // Each call of the product on bytes, with what it answered written out.
-use crate::say::{Said, sum};
+use crate::say::sum;
 use crossing::{FrameStep, FrameWalk, step_frame, walk_frame};
 use forwarder::step::Step;
 use forwarder::walk::{LENT_MET, Tally};
@@ -11,7 +11,7 @@ use std::io;
 pub fn planned(rt: &impl Print, file: &[u8], words: &mut [u64], hops: &mut [u8]) -> io::Result<()> {
     match plan_rack(file, words, hops) {
         Ok(columns) => print!(rt; " accepted, columns {columns}")?,
-        Err(refused) => print!(rt; " {}", Said(refused))?,
+        Err(refused) => print!(rt; " {refused}")?,
     }
     print!(rt; ", sums {} {}", sum(words), sum(hops))
 }
@@ -21,7 +21,7 @@ pub fn written(rt: &impl Print, file: &[u8], output: &mut [u8]) -> io::Result<Op
     let answer = write_plan(file, output);
     match answer {
         Ok(length) => print!(rt; "; plan {length} bytes")?,
-        Err(refused) => print!(rt; "; plan {}", Said(refused))?,
+        Err(refused) => print!(rt; "; plan {refused}")?,
     }
     print!(rt; " sum {}", sum(output))?;
     Ok(answer.ok().map(|length| length as usize))

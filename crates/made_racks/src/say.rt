@@ -1,27 +1,5 @@
-// How a refusal is printed, and sums that stand for many numbers in a line.
+// Sums that stand for many numbers in a line.
 ghost use Rattle.std.specs.Prelude.{◌<◌};
-
-use rack::refused::Refused;
-use std::fmt;
-
-// A refusal, with the link or the card in fault.
-#[derive(Clone, Copy)]
-pub struct Said(pub Refused);
-
-impl fmt::Display for Said {
-    fn fmt<W: fmt::Write>(&self, f: &mut fmt::Formatter<W>) -> fmt::Result {
-        let refused = self.0;
-        write!(f, "refused {}", refused.number())?;
-        match refused {
-            Refused::NoEnd(link)
-            | Refused::OneCard(link)
-            | Refused::Parallel(link)
-            | Refused::OddLoop(link) => write!(f, " link {link}"),
-            Refused::Unreached(card) => write!(f, " card {card}"),
-            _ => Ok(()),
-        }
-    }
-}
 
 // A sum with one more number in it.
 fn added(sum: u32, x: u64) -> u32
