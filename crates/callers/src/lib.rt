@@ -33,9 +33,9 @@ pub fn walk_by_caller(
     ensures arrives { CallerFrame plan.now from goal caller met.old → CallerCanTake plan.now from goal caller traffic → CallerArrived plan.now from goal caller traffic (caller_walk_of traffic result) met.new }
     ensures full { CallerFrame plan.now from goal caller met.old → (CallerCanTake plan.now from goal caller traffic → ⊥) → CallerFull traffic (caller_walk_of traffic result) met.old met.new }
 {
-    if met.len() != LENT_MET {
+    let Some(met) = met.as_mut_array::<LENT_MET>() else {
         return Err(Refused::Lent);
-    }
+    };
     caller_fault(plan, caller)?;
     let u = caller as usize;
     let walk = walk_frame(plan, from, goal, traffic.tally_of(u), met)?;
@@ -59,9 +59,9 @@ pub fn walk_lent(
     ensures arrives { LentFrame plan.now from frame.now met.old → LentCanTake plan.now from frame.now traffic → LentArrived plan.now from frame.now traffic (caller_walk_of traffic result) met.new }
     ensures full { LentFrame plan.now from frame.now met.old → (LentCanTake plan.now from frame.now traffic → ⊥) → CallerFull traffic (caller_walk_of traffic result) met.old met.new }
 {
-    if met.len() != LENT_MET {
+    let Some(met) = met.as_mut_array::<LENT_MET>() else {
         return Err(Refused::Lent);
-    }
+    };
     plan_layout(plan)?;
     let read = Frame::read(frame)?;
     walk_by_caller(plan, from, read.goal, read.caller as u32, traffic, met)

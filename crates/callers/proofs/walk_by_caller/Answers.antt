@@ -9,10 +9,10 @@ use Rattle.callers.proofs.Answers.{refused_is, put_back, walk_answered}
 use Rattle.callers.proofs.Delivery.{with_delivery}
 use Rattle.callers.proofs.walk_by_caller.Goals as goal
 
-pub returns-then-met-ne-LENT_MET : goal.returns-then-met-ne-LENT_MET
-returns-then-met-ne-LENT_MET c =
+pub returns-in_default : goal.returns-in_default
+returns-in_default c =
     let holds = with_delivery _ _ _ _ _ _ _ _
-    (refused_is _ _ _ _ _ _ Lent _ (no_room _ _ _ _ _ _ c.if-met-ne-LENT_MET.true)) in
+    (refused_is _ _ _ _ _ _ Lent _ (no_room _ _ _ _ _ _ c.in_default.ensures.cases)) in
     record {
       says = holds.0;
       arrives = holds.1.0;
@@ -25,8 +25,8 @@ returns-in_err-caller_fault c =
     let fault = c.in_err-caller_fault.ensures in
     let holds = with_delivery _ _ _ _ _ _ _ _
     (refused_is _ _ _ _ _ _ _ _
-    (no_caller _ _ _ _ _ _ c.if-met-ne-LENT_MET.false (λ e. refusal_numbered _ (fault ∙ e)) ∙ sym fault)) in
-    rw (p.1, p.2) (record {
+    (no_caller _ _ _ _ _ _ c.in-Some.ensures.cases.long (λ e. refusal_numbered _ (fault ∙ e)) ∙ sym fault)) in
+    rw (p.1, p.2, c.in-Some.ensures.cases.same) (record {
       says = holds.0;
       arrives = holds.1.0;
       full = holds.1.1;
@@ -41,7 +41,7 @@ returns-in_err-walk c =
     let z = c.args in
     let holds = with_delivery _ _ _ _ _ _ _ _
     (walk_answered _ _ _ _ _ _ c.tally_of.ensures _ _ (rw c.tally_of.ensures (put_back z.plan.now z.from z.goal z.caller z.traffic)) _ _
-    c.in_err-walk.ensures.says c.if-met-ne-LENT_MET.false (sym c.in_ok-caller_fault.ensures)) in
+    (rw c.in-Some.ensures.cases.same at c.in_err-walk.ensures.says) c.in-Some.ensures.cases.long (sym c.in_ok-caller_fault.ensures)) in
     rw (p.1, p.2) (record {
       says = holds.0;
       arrives = holds.1.0;
@@ -55,7 +55,7 @@ pub returns : goal.returns
 returns c =
     let holds = with_delivery _ _ _ _ _ _ _ _
     (walk_answered _ _ _ _ _ _ c.tally_of.ensures _ _ c.with_tally.ensures _ _
-    c.in_ok-walk.ensures.says c.if-met-ne-LENT_MET.false (sym c.in_ok-caller_fault.ensures)) in
+    (rw c.in-Some.ensures.cases.same at c.in_ok-walk.ensures.says) c.in-Some.ensures.cases.long (sym c.in_ok-caller_fault.ensures)) in
     record {
       says = holds.0;
       arrives = holds.1.0;

@@ -9,9 +9,9 @@ use Rattle.callers.proofs.Answers.{refused_is, lent_answered}
 use Rattle.callers.proofs.Delivery.{with_lent_delivery}
 use Rattle.callers.proofs.walk_lent.Goals as goal
 
-pub returns-then-met-ne-LENT_MET : goal.returns-then-met-ne-LENT_MET
-returns-then-met-ne-LENT_MET c =
-    let holds = with_lent_delivery _ _ _ _ _ _ _ (refused_is _ _ _ _ _ _ Lent _ (lent_no_room _ _ _ _ _ c.if-met-ne-LENT_MET.true)) in
+pub returns-in_default : goal.returns-in_default
+returns-in_default c =
+    let holds = with_lent_delivery _ _ _ _ _ _ _ (refused_is _ _ _ _ _ _ Lent _ (lent_no_room _ _ _ _ _ c.in_default.ensures.cases)) in
     record {
       says = holds.0;
       arrives = holds.1.0;
@@ -24,8 +24,8 @@ returns-in_err-plan_layout c =
     let number = c.in_err-plan_layout.ensures.says.number in
     let holds = with_lent_delivery _ _ _ _ _ _ _
     (refused_is _ _ _ _ _ _ _ _
-    (lent_no_plan _ _ _ _ _ c.if-met-ne-LENT_MET.false (λ e. refusal_numbered _ (number ∙ e)) ∙ sym number)) in
-    rw (p.1, p.2) (record {
+    (lent_no_plan _ _ _ _ _ c.in-Some.ensures.cases.long (λ e. refusal_numbered _ (number ∙ e)) ∙ sym number)) in
+    rw (p.1, p.2, c.in-Some.ensures.cases.same) (record {
       says = holds.0;
       arrives = holds.1.0;
       full = holds.1.1;
@@ -37,8 +37,8 @@ returns-in_err-read c =
     let short = c.in_err-read.ensures in
     let holds = with_lent_delivery _ _ _ _ _ _ _
     (refused_is _ _ _ _ _ _ NoFrame _
-    (lent_short _ _ _ _ _ c.if-met-ne-LENT_MET.false (sym c.in_ok-plan_layout.ensures.says.number) short.0)) in
-    rw (p.1, p.2, short.1) (record {
+    (lent_short _ _ _ _ _ c.in-Some.ensures.cases.long (sym c.in_ok-plan_layout.ensures.says.number) short.0)) in
+    rw (p.1, p.2, short.1, c.in-Some.ensures.cases.same) (record {
       says = holds.0;
       arrives = holds.1.0;
       full = holds.1.1;
@@ -52,8 +52,8 @@ pub returns : goal.returns
 returns c =
     let read = c.in_ok-read.ensures in
     let holds = with_lent_delivery _ _ _ _ _ _ _
-    (lent_answered _ _ _ _ _ _ _ c.if-met-ne-LENT_MET.false (sym c.in_ok-plan_layout.ensures.says.number)
-    read.0 read.1 read.2 c.walk_by_caller.ensures.says) in
+    (lent_answered _ _ _ _ _ _ _ c.in-Some.ensures.cases.long (sym c.in_ok-plan_layout.ensures.says.number)
+    read.0 read.1 read.2 (rw c.in-Some.ensures.cases.same at c.walk_by_caller.ensures.says)) in
     record {
       says = holds.0;
       arrives = holds.1.0;
