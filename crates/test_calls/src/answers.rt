@@ -33,30 +33,28 @@ pub fn put_refused(refused: Refused, answer: &mut [u32]) -> u32
 }
 
 // The link or card, and the value.
-pub fn put_answer(a: Result<u32, Refused>, answer: &mut [u32]) -> u32
-    requires { length answer.old ≡ 2 }
+pub fn put_answer(a: Result<u32, Refused>, answer: &mut [u32; 2]) -> u32
     ensures { answer_in result answer.new ≡ answer_of a }
 {
     match a {
         Ok(value) => {
-            answer.copy_from_slice(&[0, value]);
+            *answer = [0, value];
             0
         }
         Err(refused) => {
-            answer.copy_from_slice(&[refused.place(), 0]);
+            *answer = [refused.place(), 0];
             refused.number()
         }
     }
 }
 
 // The three sizes.
-pub fn put_sizes(s: Result<Plan<'_>, Refused>, answer: &mut [u32]) -> u32
-    requires { length answer.old ≡ 3 }
+pub fn put_sizes(s: Result<Plan<'_>, Refused>, answer: &mut [u32; 3]) -> u32
     ensures { sizes_in result answer.new ≡ sizes_of s.entry }
 {
     match s {
         Ok(p) => {
-            answer.copy_from_slice(&[p.cards as u32, p.links as u32, p.columns as u32]);
+            *answer = [p.cards as u32, p.links as u32, p.columns as u32];
             0
         }
         Err(refused) => put_refused(refused, answer),
@@ -64,8 +62,7 @@ pub fn put_sizes(s: Result<Plan<'_>, Refused>, answer: &mut [u32]) -> u32
 }
 
 // The outcome, the link and the far card; 1 for a column or 0 for none, and the column.
-pub fn put_step(s: Result<FrameStep, Refused>, answer: &mut [u32]) -> u32
-    requires { length answer.old ≡ 5 }
+pub fn put_step(s: Result<FrameStep, Refused>, answer: &mut [u32; 5]) -> u32
     ensures { frame_step_in result answer.new ≡ frame_step_of s }
 {
     match s {
@@ -75,13 +72,13 @@ pub fn put_step(s: Result<FrameStep, Refused>, answer: &mut [u32]) -> u32
                 Step::Arrived => (1, 0, 0),
                 Step::Over { link, far } => (2, link, far),
             };
-            answer.copy_from_slice(&[
+            *answer = [
                 outcome,
                 link,
                 far,
                 u32::from(crossed.is_some()),
                 crossed.unwrap_or(0),
-            ]);
+            ];
             0
         }
         Err(refused) => put_refused(refused, answer),
@@ -89,24 +86,23 @@ pub fn put_step(s: Result<FrameStep, Refused>, answer: &mut [u32]) -> u32
 }
 
 // How it ended, its hops, and the counts; 1 for a column or 0 for none, and the column. With a refusal the counts are as they went in.
-pub fn put_walk(f: Result<FrameWalk, Refused>, tally: Tally, answer: &mut [u32]) -> u32
-    requires { length answer.old ≡ 6 }
+pub fn put_walk(f: Result<FrameWalk, Refused>, tally: Tally, answer: &mut [u32; 6]) -> u32
     ensures { frame_walk_in result answer.new ≡ frame_walk_of tally f }
 {
     match f {
         Ok(FrameWalk { walked, crossed }) => {
-            answer.copy_from_slice(&[
+            *answer = [
                 u32::from(walked.arrived),
                 walked.hops,
                 walked.tally.frames,
                 walked.tally.hops,
                 u32::from(crossed.is_some()),
                 crossed.unwrap_or(0),
-            ]);
+            ];
             0
         }
         Err(refused) => {
-            answer.copy_from_slice(&[0, 0, tally.frames, tally.hops, 0, 0]);
+            *answer = [0, 0, tally.frames, tally.hops, 0, 0];
             refused.number()
         }
     }
@@ -133,9 +129,8 @@ pub fn put_caller_walk(
     frames: &mut [u32; MOST_CALLERS],
     hops: &mut [u32; MOST_CALLERS],
     turns: &mut [u32; MOST_CALLERS],
-    answer: &mut [u32],
+    answer: &mut [u32; 4],
 ) -> u32
-    requires { length answer.old ≡ 4 }
     ensures { caller_walk_in result answer.new (lent_traffic frames.new hops.new turns.new) ≡ caller_walk_of (lent_traffic frames.old hops.old turns.old) w }
 {
     match w {
@@ -143,12 +138,12 @@ pub fn put_caller_walk(
             *frames = w.traffic.frames;
             *hops = w.traffic.hops;
             *turns = w.traffic.turns;
-            answer.copy_from_slice(&[
+            *answer = [
                 u32::from(w.arrived),
                 w.hops,
                 u32::from(w.crossed.is_some()),
                 w.crossed.unwrap_or(0),
-            ]);
+            ];
             0
         }
         Err(refused) => put_refused(refused, answer),
@@ -156,21 +151,19 @@ pub fn put_caller_walk(
 }
 
 // How many places differ; 1 for a column or 0 for none, and the column.
-pub fn put_places(p: Places, answer: &mut [u32])
-    requires { length answer.old ≡ 3 }
+pub fn put_places(p: Places, answer: &mut [u32; 3])
     ensures { places_in answer.new ≡ places_of p }
 {
-    answer.copy_from_slice(&[p.count, u32::from(p.first.is_some()), p.first.unwrap_or(0)]);
+    *answer = [p.count, u32::from(p.first.is_some()), p.first.unwrap_or(0)];
 }
 
 // 1 for a card or 0 for none, and the card.
-pub fn put_conference(r: Result<Option<u32>, Refused>, answer: &mut [u32]) -> u32
-    requires { length answer.old ≡ 2 }
+pub fn put_conference(r: Result<Option<u32>, Refused>, answer: &mut [u32; 2]) -> u32
     ensures { conference_in result answer.new ≡ conference_of r }
 {
     match r {
         Ok(card) => {
-            answer.copy_from_slice(&[u32::from(card.is_some()), card.unwrap_or(0)]);
+            *answer = [u32::from(card.is_some()), card.unwrap_or(0)];
             0
         }
         Err(refused) => put_refused(refused, answer),
@@ -178,14 +171,13 @@ pub fn put_conference(r: Result<Option<u32>, Refused>, answer: &mut [u32]) -> u3
 }
 
 // The three sizes and the sum.
-pub fn put_summed(s: Result<Summed<'_>, Refused>, answer: &mut [u32]) -> u32
-    requires { length answer.old ≡ 4 }
+pub fn put_summed(s: Result<Summed<'_>, Refused>, answer: &mut [u32; 4]) -> u32
     ensures { summed_in result answer.new ≡ summed_of s.entry }
 {
     match s {
         Ok(s) => {
             let p = s.plan;
-            answer.copy_from_slice(&[p.cards as u32, p.links as u32, p.columns as u32, s.total]);
+            *answer = [p.cards as u32, p.links as u32, p.columns as u32, s.total];
             0
         }
         Err(refused) => put_refused(refused, answer),
@@ -193,13 +185,12 @@ pub fn put_summed(s: Result<Summed<'_>, Refused>, answer: &mut [u32]) -> u32
 }
 
 // The new plan's length and its sum.
-pub fn put_summed_plan(p: Result<SummedPlan, Refused>, answer: &mut [u32]) -> u32
-    requires { length answer.old ≡ 2 }
+pub fn put_summed_plan(p: Result<SummedPlan, Refused>, answer: &mut [u32; 2]) -> u32
     ensures { summed_plan_in result answer.new ≡ summed_plan_of p }
 {
     match p {
         Ok(p) => {
-            answer.copy_from_slice(&[p.length, p.total]);
+            *answer = [p.length, p.total];
             0
         }
         Err(refused) => put_refused(refused, answer),

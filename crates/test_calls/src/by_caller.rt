@@ -23,9 +23,9 @@ pub fn test_walk_by_caller(
 ) -> u32
     ensures { Answered 4 result answer.old answer.new ((met.new ≡ met.old) × (lent_traffic frames.new hops.new turns.new ≡ lent_traffic frames.old hops.old turns.old)) (CallerWalkSays plan.now from goal caller (lent_traffic frames.old hops.old turns.old) (caller_walk_in result answer.new (lent_traffic frames.new hops.new turns.new)) met.old met.new) }
 {
-    if answer.len() != 4 {
+    let Some(answer) = answer.as_mut_array::<4>() else {
         return 1;
-    }
+    };
     let traffic = lent_traffic(frames, hops, turns);
     put_caller_walk(
         walk_by_caller(plan, from, goal, caller, traffic, met),
@@ -49,9 +49,9 @@ pub fn test_walk_lent(
 ) -> u32
     ensures { Answered 4 result answer.old answer.new ((met.new ≡ met.old) × (lent_traffic frames.new hops.new turns.new ≡ lent_traffic frames.old hops.old turns.old)) (LentWalkSays plan.now from frame.now (lent_traffic frames.old hops.old turns.old) (caller_walk_in result answer.new (lent_traffic frames.new hops.new turns.new)) met.old met.new) }
 {
-    if answer.len() != 4 {
+    let Some(answer) = answer.as_mut_array::<4>() else {
         return 1;
-    }
+    };
     let traffic = lent_traffic(frames, hops, turns);
     put_caller_walk(
         walk_lent(plan, from, frame, traffic, met),

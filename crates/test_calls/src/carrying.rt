@@ -24,9 +24,9 @@ pub fn test_read_carried(
 ) -> u32
     ensures { Answered 3 result answer.old answer.new Unit (ReadWithTotalSays (carried_bytes bytes.now cards links columns) total (sizes_in result answer.new)) }
 {
-    if answer.len() != 3 {
+    let Some(answer) = answer.as_mut_array::<3>() else {
         return 1;
-    }
+    };
     let opened = Opened {
         bytes,
         cards,
@@ -95,9 +95,9 @@ pub fn test_step_carried(
 ) -> u32
     ensures { Answered 5 result answer.old answer.new Unit (FrameStepSays (carried_bytes bytes.now cards links columns) from goal (frame_step_in result answer.new)) }
 {
-    if answer.len() != 5 {
+    let Some(answer) = answer.as_mut_array::<5>() else {
         return 1;
-    }
+    };
     let opened = Opened {
         bytes,
         cards,
@@ -125,9 +125,9 @@ pub fn test_walk_carried(
 ) -> u32
     ensures { Answered 4 result answer.old answer.new ((met.new ≡ met.old) × (lent_traffic frames.new hops.new turns.new ≡ lent_traffic frames.old hops.old turns.old)) (CallerWalkSays (carried_bytes bytes.now cards links columns) from goal caller (lent_traffic frames.old hops.old turns.old) (caller_walk_in result answer.new (lent_traffic frames.new hops.new turns.new)) met.old met.new) }
 {
-    if answer.len() != 4 {
+    let Some(answer) = answer.as_mut_array::<4>() else {
         return 1;
-    }
+    };
     let opened = Opened {
         bytes,
         cards,
@@ -159,9 +159,9 @@ pub fn test_conference_carried(
 ) -> u32
     ensures { Answered 2 result answer.old answer.new Unit (ConferenceSaysWith (carried_bytes bytes.now cards links columns) total a b c (conference_in result answer.new)) }
 {
-    if answer.len() != 2 {
+    let Some(answer) = answer.as_mut_array::<2>() else {
         return 1;
-    }
+    };
     let opened = Opened {
         bytes,
         cards,
@@ -185,9 +185,9 @@ pub fn test_add_carried(
 ) -> u32
     ensures { Answered 2 result answer.old answer.new (output.new ≡ output.old) (AddSays (carried_bytes bytes.now cards links columns) total card (summed_plan_in result answer.new) output.old output.new) }
 {
-    if answer.len() != 2 {
+    let Some(answer) = answer.as_mut_array::<2>() else {
         return 1;
-    }
+    };
     let opened = Opened {
         bytes,
         cards,
@@ -210,9 +210,9 @@ pub fn test_take_off_carried(
 ) -> u32
     ensures { Answered 2 result answer.old answer.new (output.new ≡ output.old) (TakeOffSays (carried_bytes bytes.now cards links columns) total (summed_plan_in result answer.new) output.old output.new) }
 {
-    if answer.len() != 2 {
+    let Some(answer) = answer.as_mut_array::<2>() else {
         return 1;
-    }
+    };
     let opened = Opened {
         bytes,
         cards,

@@ -38,9 +38,9 @@ pub mod opening;
 pub fn test_plan_rack(file: &[u8], words: &mut [u64], hops: &mut [u8], answer: &mut [u32]) -> u32
     ensures { Answered 2 result answer.old answer.new ((words.new ≡ words.old) × (hops.new ≡ hops.old)) (PlanSays file.now (answer_in result answer.new) words.old words.new hops.old hops.new) }
 {
-    if answer.len() != 2 {
+    let Some(answer) = answer.as_mut_array::<2>() else {
         return 1;
-    }
+    };
     put_answer(plan_rack(file, words, hops), answer)
 }
 
@@ -48,9 +48,9 @@ pub fn test_plan_rack(file: &[u8], words: &mut [u64], hops: &mut [u8], answer: &
 pub fn test_listing_text(file: &[u8], text: &mut [u8], answer: &mut [u32]) -> u32
     ensures { Answered 2 result answer.old answer.new (text.new ≡ text.old) (ListingSays file.now (answer_in result answer.new) text.old text.new) }
 {
-    if answer.len() != 2 {
+    let Some(answer) = answer.as_mut_array::<2>() else {
         return 1;
-    }
+    };
     put_answer(listing_text(file, text), answer)
 }
 
@@ -67,9 +67,9 @@ pub fn test_card_address<'a>(plan: &'a [u8], card: u32, part: &mut &'a [u8]) -> 
 pub fn test_plan_places(plan: &[u8], a: u32, b: u32, answer: &mut [u32]) -> u32
     ensures { Answered 3 result answer.old answer.new Unit (PlacesSay plan.now a b result answer.new) }
 {
-    if answer.len() != 3 {
+    let Some(answer) = answer.as_mut_array::<3>() else {
         return 1;
-    }
+    };
     match frame_plan(plan, a, b) {
         Ok(sized) => {
             let ones = ones_table();
@@ -84,9 +84,9 @@ pub fn test_plan_places(plan: &[u8], a: u32, b: u32, answer: &mut [u32]) -> u32
 pub fn test_step_frame(plan: &[u8], from: u32, goal: u32, answer: &mut [u32]) -> u32
     ensures { Answered 5 result answer.old answer.new Unit (FrameStepSays plan.now from goal (frame_step_in result answer.new)) }
 {
-    if answer.len() != 5 {
+    let Some(answer) = answer.as_mut_array::<5>() else {
         return 1;
-    }
+    };
     put_step(step_frame(plan, from, goal), answer)
 }
 
@@ -103,9 +103,9 @@ pub fn test_walk_frame(
 ) -> u32
     ensures { Answered 6 result answer.old answer.new (met.new ≡ met.old) (FrameWalkSays plan.now from goal (counts frames hops) (frame_walk_in result answer.new) met.old met.new) }
 {
-    if answer.len() != 6 {
+    let Some(answer) = answer.as_mut_array::<6>() else {
         return 1;
-    }
+    };
     let tally = Tally { frames, hops };
     put_walk(walk_frame(plan, from, goal, tally, met), tally, answer)
 }
@@ -114,9 +114,9 @@ pub fn test_walk_frame(
 pub fn test_conference_card(plan: &[u8], a: u32, b: u32, c: u32, answer: &mut [u32]) -> u32
     ensures { Answered 2 result answer.old answer.new Unit (ConferenceSays plan.now a b c (conference_in result answer.new)) }
 {
-    if answer.len() != 2 {
+    let Some(answer) = answer.as_mut_array::<2>() else {
         return 1;
-    }
+    };
     put_conference(conference_card(plan, a, b, c), answer)
 }
 
@@ -124,9 +124,9 @@ pub fn test_conference_card(plan: &[u8], a: u32, b: u32, c: u32, answer: &mut [u
 pub fn test_read_summed(plan: &[u8], answer: &mut [u32]) -> u32
     ensures { Answered 4 result answer.old answer.new Unit (SummedSays plan.now (summed_in result answer.new)) }
 {
-    if answer.len() != 4 {
+    let Some(answer) = answer.as_mut_array::<4>() else {
         return 1;
-    }
+    };
     put_summed(read_summed(plan), answer)
 }
 
@@ -140,9 +140,9 @@ pub fn test_add_card(
 ) -> u32
     ensures { Answered 2 result answer.old answer.new (output.new ≡ output.old) (AddSays plan.now total card (summed_plan_in result answer.new) output.old output.new) }
 {
-    if answer.len() != 2 {
+    let Some(answer) = answer.as_mut_array::<2>() else {
         return 1;
-    }
+    };
     put_summed_plan(add_card(plan, total, card, output), answer)
 }
 
@@ -150,8 +150,8 @@ pub fn test_add_card(
 pub fn test_take_card_off(plan: &[u8], total: u32, output: &mut [u8], answer: &mut [u32]) -> u32
     ensures { Answered 2 result answer.old answer.new (output.new ≡ output.old) (TakeOffSays plan.now total (summed_plan_in result answer.new) output.old output.new) }
 {
-    if answer.len() != 2 {
+    let Some(answer) = answer.as_mut_array::<2>() else {
         return 1;
-    }
+    };
     put_summed_plan(take_card_off(plan, total, output), answer)
 }

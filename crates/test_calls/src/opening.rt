@@ -26,9 +26,9 @@ fn opened(bytes: &[u8]) -> Opened<'_>
 pub fn test_opened_step(bytes: &[u8], from: u32, goal: u32, answer: &mut [u32]) -> u32
     ensures { Answered 5 result answer.old answer.new Unit (FrameStepSays (opened_for bytes.now) from goal (frame_step_in result answer.new)) }
 {
-    if answer.len() != 5 {
+    let Some(answer) = answer.as_mut_array::<5>() else {
         return 1;
-    }
+    };
     put_step(opened(bytes).step(from, goal), answer)
 }
 
@@ -46,9 +46,9 @@ pub fn test_opened_walk(
 ) -> u32
     ensures { Answered 4 result answer.old answer.new ((met.new ≡ met.old) × (lent_traffic frames.new hops.new turns.new ≡ lent_traffic frames.old hops.old turns.old)) (CallerWalkSays (opened_for bytes.now) from goal caller (lent_traffic frames.old hops.old turns.old) (caller_walk_in result answer.new (lent_traffic frames.new hops.new turns.new)) met.old met.new) }
 {
-    if answer.len() != 4 {
+    let Some(answer) = answer.as_mut_array::<4>() else {
         return 1;
-    }
+    };
     let traffic = lent_traffic(frames, hops, turns);
     put_caller_walk(
         opened(bytes).walk(from, goal, caller, traffic, met),
