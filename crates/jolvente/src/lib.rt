@@ -24,9 +24,12 @@ pub fn jolvente_write_plan(wiring: &[u8], plan: &mut [u8], record: &mut [u8]) ->
     ensures says { CWriteSays wiring.now result plan.old plan.new «record».old «record».new }
     ensures found { CAsked wiring.now plan.old «record».old → CFound wiring.now result plan.new }
 {
-    if plan.len() != LENT_PLAN || record.len() != LENT_RECORD {
+    let Some(plan) = plan.as_mut_array::<LENT_PLAN>() else {
         return 1;
-    }
+    };
+    let Some(record) = record.as_mut_array::<LENT_RECORD>() else {
+        return 1;
+    };
     match write_plan(wiring, plan) {
         Ok(length) => {
             put_record(record, length, 0, 0, 0);
@@ -44,9 +47,9 @@ pub fn jolvente_read_plan(plan: &[u8], record: &mut [u8]) -> u32
     ensures says { CReadSays plan.now result «record».old «record».new }
     ensures promise { result ≡ 0 → Measured plan.now }
 {
-    if record.len() != LENT_RECORD {
+    let Some(record) = record.as_mut_array::<LENT_RECORD>() else {
         return 1;
-    }
+    };
     match read_plan(plan) {
         Ok(sized) => {
             put_record(
@@ -75,9 +78,12 @@ pub fn jolvente_walk(
     ensures arrives { CFrame plan.now from goal caller met.old «record».old → CanTake (counts_in «record».old) (hops (plan_wiring plan.now) from goal) → Arrived plan.now from goal (counts_in «record».old) (walked_in result «record».new) (cards_in met.new) }
     ensures full { CFrame plan.now from goal caller met.old «record».old → (CanTake (counts_in «record».old) (hops (plan_wiring plan.now) from goal) → ⊥) → CFull result met.old met.new «record».old «record».new }
 {
-    if met.len() != LENT_MET_BYTES || record.len() != LENT_RECORD {
+    let Some(met) = met.as_mut_array::<LENT_MET_BYTES>() else {
         return 1;
-    }
+    };
+    let Some(record) = record.as_mut_array::<LENT_RECORD>() else {
+        return 1;
+    };
     if let Err(refused) = caller_fault(plan, caller) {
         return refused.number();
     }

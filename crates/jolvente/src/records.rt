@@ -1,6 +1,6 @@
 // Lent records of four numbers of 32 bits, and cards of 16 bits in lent bytes.
-ghost use Rattle.std.specs.Prelude.{◌≡◌, length};
-ghost use Rattle.jolvente.specs.Records.{card_bytes, lent_met_bytes, lent_record, record_bytes};
+ghost use Rattle.std.specs.Prelude.{◌≡◌};
+ghost use Rattle.jolvente.specs.Records.{card_bytes, record_bytes};
 
 use forwarder::walk::LENT_MET;
 use rack::bytes::{put_number, put_number32};
@@ -11,8 +11,7 @@ pub const LENT_RECORD: usize = 16;
 pub const LENT_MET_BYTES: usize = 512;
 
 // Fills a record.
-pub fn put_record(record: &mut [u8], x: u32, y: u32, z: u32, u: u32)
-    requires { length «record».old ≡ lent_record }
+pub fn put_record(record: &mut [u8; LENT_RECORD], x: u32, y: u32, z: u32, u: u32)
     ensures { «record».new ≡ record_bytes x y z u }
 {
     record.fill(0);
@@ -23,8 +22,7 @@ pub fn put_record(record: &mut [u8], x: u32, y: u32, z: u32, u: u32)
 }
 
 // Writes the cards met.
-pub fn put_cards(cards: &[u16; LENT_MET], bytes: &mut [u8])
-    requires { length bytes.old ≡ lent_met_bytes }
+pub fn put_cards(cards: &[u16; LENT_MET], bytes: &mut [u8; LENT_MET_BYTES])
     ensures { bytes.new ≡ card_bytes cards.now }
 {
     bytes.fill(0);

@@ -1,28 +1,30 @@
 -- 1 comes before anything is written; else the plan and the record are written, or made zero. Demands 2 and 3 follow. Assumes nothing.
-use mathlib.Core.Path.{◌≡◌, sym, ap, ◌∙◌}
-use mathlib.Core.Logic.{⊎_elim}
+use mathlib.Core.Path.{sym, ap, ◌∙◌}
 use Prim.Native.Nat.{ℕ}
 use native.Mathlib.Omega.{arith}
 use lib.ListN.{length, replicate}
 use Rattle.planner.specs.Answer.{answer_of}
 use Rattle.std.specs.Prelude.{Ok, Err}
-use Rattle.jolvente.specs.Records.{lent_record}
 use Rattle.jolvente.proofs.Answers.{record_zero, no_plan_room, no_record_room, plan_said}
 use Rattle.jolvente.proofs.PlanPromise.{with_found}
 use Rattle.jolvente.proofs.Returned.{returned_fits}
 use Rattle.jolvente.proofs.jolvente_write_plan.Goals as goal
 
-pub returns-then-plan-ne-LENT_PLAN : goal.returns-then-plan-ne-LENT_PLAN
-returns-then-plan-ne-LENT_PLAN c =
+pub returns-in_default : goal.returns-in_default
+returns-in_default c =
+    let z = c.args in with_found _ _ _ _ _ _ (no_plan_room z.wiring.now z.plan.now z.«record».now c.in_default.ensures.cases)
+
+pub returns-in_default-as_mut_array : goal.returns-in_default-as_mut_array
+returns-in_default-as_mut_array c =
     let z = c.args in
-    with_found _ _ _ _ _ _
-    (⊎_elim (no_plan_room z.wiring.now z.plan.now z.«record».now) (λ h. no_record_room z.wiring.now z.plan.now z.«record».now h.1)
-    c.then-plan-ne-LENT_PLAN.either)
+    rw c.in-Some.ensures.cases.same
+    (with_found _ _ _ _ _ _ (no_record_room z.wiring.now z.plan.now z.«record».now c.in_default-as_mut_array.ensures.cases))
 
 pub returns-in-Ok : goal.returns-in-Ok
 returns-in-Ok c =
     with_found _ _ _ _ _ _
-    (plan_said _ _ _ _ _ (answer_of (Ok c.in-Ok.length)) (omega arith) (omega arith) c.in-Ok.ensures.says c.put_record.ensures)
+    (plan_said _ _ _ _ _ (answer_of (Ok c.in-Ok.length)) c.in-Some.ensures.cases.long c.in-Some-as_mut_array.ensures.cases.long
+    (rw c.in-Some.ensures.cases.same at c.in-Ok.ensures.says) c.put_record.ensures)
 
 pub overflow_mul-result : goal.overflow_mul-result
 overflow_mul-result c =
@@ -34,8 +36,9 @@ overflow_add-result c =
 
 pub returns-in-Err : goal.returns-in-Err
 returns-in-Err c =
-    let room : length c.args.«record».now ≡ lent_record = omega arith in
-    let zero = c.fill.ensures.after (λ y e. e) ∙ ap (λ (k : ℕ). replicate k 0) room ∙ sym record_zero in
+    let room = c.in-Some.ensures.cases in
+    let record_room = c.in-Some-as_mut_array.ensures.cases in
+    let zero = c.fill.ensures.after (λ y e. e) ∙ ap (λ (k : ℕ). replicate k 0) (ap length record_room.same ∙ record_room.long) ∙ sym record_zero in
     rw (c.number.ensures, c.place.ensures)
     (with_found _ _ _ _ _ _
-    (plan_said _ _ _ _ _ (answer_of (Err c.in-Err.refused)) (omega arith) (omega arith) c.in-Err.ensures.says zero))
+    (plan_said _ _ _ _ _ (answer_of (Err c.in-Err.refused)) room.long record_room.long (rw room.same at c.in-Err.ensures.says) zero))
