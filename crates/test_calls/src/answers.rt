@@ -1,10 +1,10 @@
 // Answers taken apart for the tests: the number is returned, the other fields go into lent numbers, in their order.
-ghost use Rattle.std.specs.Prelude.{◌≡◌, length, replicate};
+ghost use Rattle.std.specs.Prelude.{◌≡◌, length, replicate, unwrap_or};
 ghost use Rattle.rack.specs.Refused.{number_of, refusal_of};
 ghost use Rattle.planner.specs.Answer.{answer_of};
 ghost use Rattle.reader.specs.Reading.{sizes_of};
 ghost use Rattle.crossing.specs.Crossing.{frame_step_of, frame_walk_of, places_of};
-ghost use Rattle.conference.specs.Conference.{conference_of};
+ghost use Rattle.conference.specs.Conference.{conference_of, found_of};
 ghost use Rattle.plan_totals.specs.Summed.{summed_of};
 ghost use Rattle.last_card.specs.Calls.{summed_plan_of};
 ghost use Rattle.turns.specs.Turns.{part_of};
@@ -30,6 +30,16 @@ pub fn put_refused(refused: Refused, answer: &mut [u32]) -> u32
 {
     answer.fill(0);
     refused.number()
+}
+
+// 1 for something or 0 for none, and what it is.
+fn option_numbers(x: Option<u32>) -> (u32, u32)
+    ensures { (result.0 ≡ found_of x) × (result.1 ≡ unwrap_or x 0) }
+{
+    match x {
+        Some(y) => (1, y),
+        None => (0, 0),
+    }
 }
 
 // The link or card, and the value.
@@ -72,13 +82,8 @@ pub fn put_step(s: Result<FrameStep, Refused>, answer: &mut [u32; 5]) -> u32
                 Step::Arrived => (1, 0, 0),
                 Step::Over { link, far } => (2, link, far),
             };
-            *answer = [
-                outcome,
-                link,
-                far,
-                u32::from(crossed.is_some()),
-                crossed.unwrap_or(0),
-            ];
+            let (found, column) = option_numbers(crossed);
+            *answer = [outcome, link, far, found, column];
             0
         }
         Err(refused) => put_refused(refused, answer),
@@ -91,14 +96,10 @@ pub fn put_walk(f: Result<FrameWalk, Refused>, tally: Tally, answer: &mut [u32; 
 {
     match f {
         Ok(FrameWalk { walked, crossed }) => {
-            *answer = [
-                u32::from(walked.arrived),
-                walked.hops,
-                walked.tally.frames,
-                walked.tally.hops,
-                u32::from(crossed.is_some()),
-                crossed.unwrap_or(0),
-            ];
+            let arrived = u32::from(walked.arrived);
+            let t = walked.tally;
+            let (found, column) = option_numbers(crossed);
+            *answer = [arrived, walked.hops, t.frames, t.hops, found, column];
             0
         }
         Err(refused) => {
@@ -135,15 +136,14 @@ pub fn put_caller_walk(
 {
     match w {
         Ok(w) => {
-            *frames = w.traffic.frames;
-            *hops = w.traffic.hops;
-            *turns = w.traffic.turns;
-            *answer = [
-                u32::from(w.arrived),
-                w.hops,
-                u32::from(w.crossed.is_some()),
-                w.crossed.unwrap_or(0),
-            ];
+            let Traffic {
+                frames: f,
+                hops: h,
+                turns: t,
+            } = w.traffic;
+            (*frames, *hops, *turns) = (f, h, t);
+            let (found, column) = option_numbers(w.crossed);
+            *answer = [u32::from(w.arrived), w.hops, found, column];
             0
         }
         Err(refused) => put_refused(refused, answer),
@@ -154,7 +154,8 @@ pub fn put_caller_walk(
 pub fn put_places(p: Places, answer: &mut [u32; 3])
     ensures { places_in answer.new ≡ places_of p }
 {
-    *answer = [p.count, u32::from(p.first.is_some()), p.first.unwrap_or(0)];
+    let (found, column) = option_numbers(p.first);
+    *answer = [p.count, found, column];
 }
 
 // 1 for a card or 0 for none, and the card.
@@ -163,7 +164,8 @@ pub fn put_conference(r: Result<Option<u32>, Refused>, answer: &mut [u32; 2]) ->
 {
     match r {
         Ok(card) => {
-            *answer = [u32::from(card.is_some()), card.unwrap_or(0)];
+            let (found, card) = option_numbers(card);
+            *answer = [found, card];
             0
         }
         Err(refused) => put_refused(refused, answer),

@@ -13,6 +13,19 @@ use crate::answers::{
 use carried::Opened;
 use rack::limits::MOST_CALLERS;
 
+// An opened plan of any bytes, sizes and sum.
+fn opened(bytes: &[u8], cards: u32, links: u32, columns: u32, total: u32) -> Opened<'_>
+    ensures { result ≡ record { bytes = bytes.entry; cards = cards; links = links; columns = columns; total = total } }
+{
+    Opened {
+        bytes,
+        cards,
+        links,
+        columns,
+        total,
+    }
+}
+
 // Reading: 1, 12, 13. The fields are the three sizes.
 pub fn test_read_carried(
     bytes: &[u8],
@@ -27,14 +40,7 @@ pub fn test_read_carried(
     let Some(answer) = answer.as_mut_array::<3>() else {
         return 1;
     };
-    let opened = Opened {
-        bytes,
-        cards,
-        links,
-        columns,
-        total,
-    };
-    put_sizes(opened.read(), answer)
+    put_sizes(opened(bytes, cards, links, columns, total).read(), answer)
 }
 
 // A card's address.
@@ -49,14 +55,11 @@ pub fn test_address_carried<'a>(
 )
     ensures { AddressSaysWith (carried_bytes bytes.now cards links columns) total bytes.entry.ref_ptr card part.new }
 {
-    let opened = Opened {
+    put_part(
+        opened(bytes, cards, links, columns, total).address(card),
         bytes,
-        cards,
-        links,
-        columns,
-        total,
-    };
-    put_part(opened.address(card), bytes, part);
+        part,
+    );
 }
 
 // The number beside it: 12, 13, 14.
@@ -70,14 +73,7 @@ pub fn test_address_refusal_carried(
 ) -> u32
     ensures { result ≡ address_refusal_with (carried_bytes bytes.now cards links columns) total card }
 {
-    let opened = Opened {
-        bytes,
-        cards,
-        links,
-        columns,
-        total,
-    };
-    match opened.address(card) {
+    match opened(bytes, cards, links, columns, total).address(card) {
         Ok(_) => 0,
         Err(refused) => refused.number(),
     }
@@ -98,14 +94,10 @@ pub fn test_step_carried(
     let Some(answer) = answer.as_mut_array::<5>() else {
         return 1;
     };
-    let opened = Opened {
-        bytes,
-        cards,
-        links,
-        columns,
-        total: 0,
-    };
-    put_step(opened.step(from, goal), answer)
+    put_step(
+        opened(bytes, cards, links, columns, 0).step(from, goal),
+        answer,
+    )
 }
 
 // A walk by caller: 1, 12, 18, 14, 15.
@@ -128,16 +120,9 @@ pub fn test_walk_carried(
     let Some(answer) = answer.as_mut_array::<4>() else {
         return 1;
     };
-    let opened = Opened {
-        bytes,
-        cards,
-        links,
-        columns,
-        total: 0,
-    };
     let traffic = lent_traffic(frames, hops, turns);
     put_caller_walk(
-        opened.walk(from, goal, caller, traffic, met),
+        opened(bytes, cards, links, columns, 0).walk(from, goal, caller, traffic, met),
         frames,
         hops,
         turns,
@@ -162,14 +147,10 @@ pub fn test_conference_carried(
     let Some(answer) = answer.as_mut_array::<2>() else {
         return 1;
     };
-    let opened = Opened {
-        bytes,
-        cards,
-        links,
-        columns,
-        total,
-    };
-    put_conference(opened.conference(a, b, c), answer)
+    put_conference(
+        opened(bytes, cards, links, columns, total).conference(a, b, c),
+        answer,
+    )
 }
 
 // A card more: 1, 12, 13, 14, 16. The fields are the new plan's length and its sum.
@@ -188,14 +169,10 @@ pub fn test_add_carried(
     let Some(answer) = answer.as_mut_array::<2>() else {
         return 1;
     };
-    let opened = Opened {
-        bytes,
-        cards,
-        links,
-        columns,
-        total,
-    };
-    put_summed_plan(opened.add_card(card, output), answer)
+    put_summed_plan(
+        opened(bytes, cards, links, columns, total).add_card(card, output),
+        answer,
+    )
 }
 
 // The last card taken off: 1, 12, 13, 17. The fields are the new plan's length and its sum.
@@ -213,12 +190,8 @@ pub fn test_take_off_carried(
     let Some(answer) = answer.as_mut_array::<2>() else {
         return 1;
     };
-    let opened = Opened {
-        bytes,
-        cards,
-        links,
-        columns,
-        total,
-    };
-    put_summed_plan(opened.take_card_off(output), answer)
+    put_summed_plan(
+        opened(bytes, cards, links, columns, total).take_card_off(output),
+        answer,
+    )
 }

@@ -8,5 +8,6 @@ returns c =
     let a = c.args in
     let seen = carried_bytes a.bytes.now a.cards a.links a.columns in
     let found = c.address in
+    let says = rw c.opened.ensures at found.ensures in
     rw c.put_part.ensures.part
-    (part_put (address_refusal_with seen a.total a.card) seen a.bytes.ref_ptr a.card found.result found.ensures.part found.ensures.refusal)
+    (part_put (address_refusal_with seen a.total a.card) seen a.bytes.ref_ptr a.card found.result says.part says.refusal)
