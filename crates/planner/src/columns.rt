@@ -24,14 +24,9 @@ fn side(file: MeasuredFile<'_>, p: usize, q: usize, c: usize) -> bool
     (file.between(c, p) < file.between(c, q)) != (file.between(0, p) < file.between(0, q))
 }
 
-// Adds column `k`, that of a link from `p` to `q`, to the words of the cards: a sum, since an `if` with `set_bit` would be a branch a card.
-fn add_column(
-    file: MeasuredFile<'_>,
-    p: usize,
-    q: usize,
-    k: usize,
-    words: &mut [u64; LENT_WORDS],
-)
+// Adds column `k`, that of a link from `p` to `q`, to the words of the cards: a sum, since with an `if` the slowest rack that was found
+// and accepted took a twentieth longer, 579 in place of 552 µs.
+fn add_column(file: MeasuredFile<'_>, p: usize, q: usize, k: usize, words: &mut [u64; LENT_WORDS])
     requires { (p < most_cards) × (q < most_cards) × (k ≤ most_columns) × ((c : ℕ) → c < file.formed.sized.cards → get_or words.old (4 * c + k / 64) 0 < 2 ^ (k % 64)) }
     ensures { ColumnAdded file.entry.hops.now words.old words.new p q k file.entry.formed.sized.cards }
 {

@@ -40,9 +40,10 @@ fn address_cards(file: ConnectedFile<'_>, words: &mut [u64; LENT_WORDS]) -> Opti
     ensures { MatchOption result (Embedding (file_wiring file.entry.measured.formed.sized.bytes.now) (column_count (file_wiring file.entry.measured.formed.sized.bytes.now)) (address (file_wiring file.entry.measured.formed.sized.bytes.now)) → ⊥) (Addressed (file_wiring file.entry.measured.formed.sized.bytes.now) words.new) }
 {
     let measured = file.measured;
+    let cards = measured.formed.sized.cards;
     let k = open_columns(measured, words)?;
     let ones = ones_table();
-    if pairs_measure(&ones, words, words_used(k), measured.hops, measured.formed.sized.cards) {
+    if pairs_measure(&ones, words, words_used(k), measured.hops, cards) {
         Some(k)
     } else {
         None

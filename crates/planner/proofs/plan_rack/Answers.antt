@@ -1,10 +1,9 @@
--- The buffers are zero before the plan and again after a refusal. Assumes nothing.
-use mathlib.Core.Path.{refl, ap, ◌∙◌}
+-- The buffers are zero after a refusal. Assumes nothing.
+use mathlib.Core.Path.{refl}
 use mathlib.Core.Bool.{and-false}
-use Prim.Native.Nat.{ℕ}
 use native.Mathlib.Omega.{arith}
 use lib.Dec.{eqb}
-use lib.ListN.{length, replicate}
+use lib.ListN.{length}
 use borrow.Author.Tests.{ne_eqb}
 use Rattle.rack.specs.Limits.{lent_hops, lent_words}
 use Rattle.std.specs.Prelude.{Err}
