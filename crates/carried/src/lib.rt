@@ -8,9 +8,9 @@ use crossing::{FrameStep, step_frame};
 use last_card::{SummedPlan, add_card, take_card_off};
 use plan_totals::read_with_total;
 use rack::refused::Refused;
-use rack::views::Plan;
 use reader::layout::plan_layout;
 use reader::read::address_in;
+use reader::views::ReadPlan;
 use traffic::Traffic;
 
 // The fields may have any values: no call trusts them, and steps and walks do not look at the sum.
@@ -27,6 +27,7 @@ impl<'a> Opened<'a> {
     ghost use Rattle.std.specs.Prelude.{◌≡◌, IfOk, OnOk};
     ghost use Rattle.rack.specs.Buffers.{SliceIs};
     ghost use Rattle.rack.specs.Refused.{number_of};
+    ghost use Rattle.reader.specs.ReadPlans.{plan_of};
     ghost use Rattle.reader.specs.Reading.{sizes_of};
     ghost use Rattle.crossing.specs.Crossing.{FrameStepSays, frame_step_of};
     ghost use Rattle.conference.specs.Conference.{CardOrNone, conference_of};
@@ -60,9 +61,9 @@ impl<'a> Opened<'a> {
     }
 
     // Reads the plan: 12, 13, or the plan with its sizes.
-    pub fn read(self) -> Result<Plan<'a>, Refused>
-        ensures says { ReadWithPromise (seen self.entry) self.entry.total (sizes_of result) }
-        ensures bytes { IfOk result (λ p. SliceIs self.entry.bytes.ref_ptr (seen self.entry) p.bytes) }
+    pub fn read(self) -> Result<ReadPlan<'a>, Refused>
+        ensures says { ReadWithPromise (seen self.entry) self.entry.total (sizes_of (plan_of result)) }
+        ensures bytes { IfOk result (λ r. SliceIs self.entry.bytes.ref_ptr (seen self.entry) r.plan.bytes) }
     {
         read_with_total(self.seen(), self.total)
     }
@@ -72,7 +73,7 @@ impl<'a> Opened<'a> {
         ensures part { IfOk result (AddressSaysWith (seen self.entry) self.entry.total self.entry.bytes.ref_ptr card) }
         ensures refusal { number_of result ≡ address_refusal_with (seen self.entry) self.entry.total card }
     {
-        address_in(self.read()?, card)
+        address_in(self.read()?.plan, card)
     }
 
     // A step of a frame, with the column that it crosses: 12, 14.
@@ -83,7 +84,8 @@ impl<'a> Opened<'a> {
     }
 
     // A walk by caller, with the first column that it crosses: 1, 12, 18, 14, 15. The counts go in and come back; only the caller's are raised,
-    // and stuck is an answer that changes none.
+    // and stuck is an answer that changes none. What holds of a frame on a plan that was read each call of a walk says itself, from forwarder's
+    // to C's: frame, counts and answer are its own, and one record over all of them would be no plainer.
     pub fn walk(
         self,
         from: u32,

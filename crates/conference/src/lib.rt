@@ -3,27 +3,26 @@
 
 ghost use Rattle.std.specs.Prelude.{◌≡◌, OnOk};
 ghost use Rattle.rack.specs.PlanFile.{plan_cards};
-ghost use Rattle.reader.specs.Promises.{Measured};
 ghost use Rattle.conference.specs.Callers.{CallersAre};
 ghost use Rattle.conference.specs.Conference.{CardOrNone, ConferenceIs, ConferenceSays, conference_of, three_refusal};
 
 use counting::ones::{Ones, ones_table};
 use rack::refused::Refused;
-use rack::views::Plan;
 use reader::places::plan_hamming;
 use reader::read::read_plan;
+use reader::views::ReadPlan;
 
 // Three cards of a plan that was read, and the hops between each two of them.
 #[derive(Clone, Copy)]
 struct Callers<'a> {
-    plan: Plan<'a>,
+    read: ReadPlan<'a>,
     a: usize,
     b: usize,
     c: usize,
     ab: u32,
     ac: u32,
     bc: u32,
-    ghost hops: { CallersAre plan.bytes.now a b c ab ac bc },
+    ghost hops: { CallersAre read.plan.bytes.now a b c ab ac bc },
 }
 
 impl<'a> Callers<'a> {
@@ -33,39 +32,39 @@ impl<'a> Callers<'a> {
 
     // Whether card `x` is on a shortest path between each two of the three.
     fn is_median(self, ones: &Ones, x: usize) -> bool
-        requires { x < self.plan.cards }
-        ensures { result ≡ median (plan_wiring self.entry.plan.bytes.now) self.entry.a self.entry.b self.entry.c x }
+        requires { x < self.read.plan.cards }
+        ensures { result ≡ median (plan_wiring self.entry.read.plan.bytes.now) self.entry.a self.entry.b self.entry.c x }
     {
-        let from_a = plan_hamming(ones, self.plan, self.a, x);
-        let to_b = plan_hamming(ones, self.plan, x, self.b);
+        let from_a = plan_hamming(ones, self.read.plan, self.a, x);
+        let to_b = plan_hamming(ones, self.read.plan, x, self.b);
         if from_a + to_b != self.ab {
             return false;
         }
-        let to_c = plan_hamming(ones, self.plan, x, self.c);
+        let to_c = plan_hamming(ones, self.read.plan, x, self.c);
         from_a + to_c == self.ac && to_b + to_c == self.bc
     }
 
     // The lowest card that is on a shortest path between each two of the three.
     fn lowest_median(self, ones: &Ones) -> Option<u32>
-        ensures { MatchOption result (plan_cards self.entry.plan.bytes.now ≤ conference (plan_wiring self.entry.plan.bytes.now) self.entry.a self.entry.b self.entry.c) (λ x. (x < plan_cards self.entry.plan.bytes.now) × (x ≡ conference (plan_wiring self.entry.plan.bytes.now) self.entry.a self.entry.b self.entry.c)) }
+        ensures { MatchOption result (plan_cards self.entry.read.plan.bytes.now ≤ conference (plan_wiring self.entry.read.plan.bytes.now) self.entry.a self.entry.b self.entry.c) (λ x. (x < plan_cards self.entry.read.plan.bytes.now) × (x ≡ conference (plan_wiring self.entry.read.plan.bytes.now) self.entry.a self.entry.b self.entry.c)) }
     {
-        (0..self.plan.cards as u32).find(|x| self.is_median(ones, *x as usize))
+        (0..self.read.plan.cards as u32).find(|x| self.is_median(ones, *x as usize))
     }
 }
 
 // The conference card of three cards of a plan that was read, or none: 14.
-pub fn conference_sized(plan: Plan<'_>, a: u32, b: u32, c: u32) -> Result<Option<u32>, Refused>
-    requires { Measured plan.bytes.now }
-    ensures says { ConferenceIs (three_refusal 0 (plan_cards plan.entry.bytes.now) a b c) plan.entry.bytes.now a b c (conference_of result) }
-    ensures promise { OnOk result (CardOrNone plan.entry.bytes.now a b c (conference_of result)) }
+pub fn conference_sized(read: ReadPlan<'_>, a: u32, b: u32, c: u32) -> Result<Option<u32>, Refused>
+    ensures says { ConferenceIs (three_refusal 0 (plan_cards read.entry.plan.bytes.now) a b c) read.entry.plan.bytes.now a b c (conference_of result) }
+    ensures promise { OnOk result (CardOrNone read.entry.plan.bytes.now a b c (conference_of result)) }
 {
+    let plan = read.plan;
     let (a, b, c) = (a as usize, b as usize, c as usize);
     if plan.cards <= a || plan.cards <= b || plan.cards <= c {
         return Err(Refused::NoCard);
     }
     let ones = ones_table();
     let callers = Callers {
-        plan,
+        read,
         a,
         b,
         c,

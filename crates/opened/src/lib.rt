@@ -11,12 +11,13 @@ use rack::refused::Refused;
 pub fn open_plan(bytes: &[u8]) -> Result<Opened<'_>, Refused>
     ensures { OpeningSays bytes.now bytes.entry.ref_ptr (opened_of bytes.entry.ref_ptr result) }
 {
-    let read = read_summed(bytes)?;
+    let summed = read_summed(bytes)?;
+    let plan = summed.read.plan;
     Ok(Opened {
         bytes,
-        cards: read.plan.cards as u32,
-        links: read.plan.links as u32,
-        columns: read.plan.columns as u32,
-        total: read.total,
+        cards: plan.cards as u32,
+        links: plan.links as u32,
+        columns: plan.columns as u32,
+        total: summed.total,
     })
 }

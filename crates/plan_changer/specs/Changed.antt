@@ -7,7 +7,9 @@ use Rattle.rack.specs.PlanFile.{plan_cards, plan_links, plan_columns}
 use Rattle.rack.specs.declared.views.Plan.{Plan}
 use Rattle.plan_parts.specs.Parts.{first_ends, second_ends, row, row_with_one}
 
--- all that is asked of a plan whose reading was not refused, beside its sizes: fewer columns than cards, and a column where there is a link
+-- all that is asked of a plan whose reading was not refused, beside its sizes: fewer columns than cards, and a column where there is a link.
+-- The calls take no `ReadPlan`, which would ask more of callers and says neither: `Measured` allows columns without ones, and links from a card
+-- to itself
 pub record Known (p : Plan) : Type 0 where
   pub few : p.columns < p.cards
   pub crossed : 0 < p.links → 0 < p.columns

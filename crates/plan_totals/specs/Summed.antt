@@ -30,14 +30,14 @@ pub record Summed : Type 0 where
 
 -- what a call answers that gives a plan with its sizes and that sum
 abbrev pub summed_of : Result SummedView Refused → Summed
-summed_of (Ok s) = record { number = 0; cards = s.plan.cards; links = s.plan.links; columns = s.plan.columns; total = s.total }
+summed_of (Ok s) = let p = s.read.plan in record { number = 0; cards = p.cards; links = p.links; columns = p.columns; total = s.total }
 summed_of (Err e) = record { number = (refusal_of e).number; cards = 0; links = 0; columns = 0; total = 0 }
 
 -- a number and three sizes alone
-abbrev pub sizes_of : Summed → Sizes
-sizes_of r = record { number = r.number; cards = r.cards; links = r.links; columns = r.columns }
+abbrev pub sizes_alone : Summed → Sizes
+sizes_alone r = record { number = r.number; cards = r.cards; links = r.links; columns = r.columns }
 
 -- reading a plan and summing its hops: 12, 13, or the three sizes and the sum; else zeros
 pub record SummedSays (ps : List ℕ) (r : Summed) : Type 0 where
-  pub sizes : ReadSays ps (sizes_of r)
+  pub sizes : ReadSays ps (sizes_alone r)
   pub total : r.total ≡ cond (eqb (plan_refusal ps) 0) (plan_total ps) 0

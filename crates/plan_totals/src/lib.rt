@@ -2,9 +2,9 @@
 // specs/, laws in proofs/.
 #![tactic(auto)]
 
-ghost use Rattle.std.specs.Prelude.{◌≡◌, ◌<◌, IfOk, OnOk};
+ghost use Rattle.std.specs.Prelude.{◌≡◌, ◌<◌, IfOk};
 ghost use Rattle.rack.specs.PlanFile.{plan_bit, plan_cards, plan_wiring};
-ghost use Rattle.reader.specs.Promises.{Measured};
+ghost use Rattle.reader.specs.ReadPlans.{plan_of};
 ghost use Rattle.reader.specs.Reading.{sizes_of};
 ghost use Rattle.totals.specs.Totals.{bit_products, hops_to, ones_of, total_hops};
 ghost use Rattle.plan_totals.specs.Summed.{ReadWithTotalSays, SummedSays, summed_of};
@@ -14,11 +14,12 @@ use rack::refused::Refused;
 use rack::views::Plan;
 use reader::places::plan_hamming;
 use reader::read::read_plan;
+use reader::views::ReadPlan;
 
 // A plan that was read, and the sum of its hops.
-#[derive(Clone, Copy)]
+#[derive(Clone, Copy, Debug, PartialEq, Eq)]
 pub struct Summed<'a> {
-    pub plan: Plan<'a>,
+    pub read: ReadPlan<'a>,
     pub total: u32,
 }
 
@@ -49,18 +50,18 @@ fn products(plan: Plan<'_>) -> u32
 }
 
 // The sum of hops over all pairs of cards of a plan that was read.
-pub fn plan_total(plan: Plan<'_>) -> u32
-    requires { Measured plan.bytes.now }
-    ensures { result ≡ total_hops (plan_wiring plan.entry.bytes.now) }
+pub fn plan_total(read: ReadPlan<'_>) -> u32
+    ensures { result ≡ total_hops (plan_wiring read.entry.plan.bytes.now) }
 {
-    products(plan)
+    products(read.plan)
 }
 
 // The hops from a card to all cards of a plan that was read.
-pub fn hops_from(plan: Plan<'_>, card: usize) -> u32
-    requires { Measured plan.bytes.now × (card < plan.cards) }
-    ensures { result ≡ hops_to (plan_wiring plan.entry.bytes.now) (plan_cards plan.entry.bytes.now) card }
+pub fn hops_from(read: ReadPlan<'_>, card: usize) -> u32
+    requires { card < read.plan.cards }
+    ensures { result ≡ hops_to (plan_wiring read.entry.plan.bytes.now) (plan_cards read.entry.plan.bytes.now) card }
 {
+    let plan = read.plan;
     let ones = ones_table();
     let mut sum = 0;
     for c in 0..plan.cards {
@@ -70,10 +71,9 @@ pub fn hops_from(plan: Plan<'_>, card: usize) -> u32
 }
 
 // Reads a plan that comes with a sum of hops: 12, 13, or the plan with its sizes.
-pub fn read_with_total(plan: &[u8], total: u32) -> Result<Plan<'_>, Refused>
-    ensures says { ReadWithTotalSays plan.now total (sizes_of result) }
-    ensures bytes { IfOk result (λ p. p.bytes ≡ plan.entry) }
-    ensures promise { OnOk result (Measured plan.now) }
+pub fn read_with_total(plan: &[u8], total: u32) -> Result<ReadPlan<'_>, Refused>
+    ensures says { ReadWithTotalSays plan.now total (sizes_of (plan_of result)) }
+    ensures bytes { IfOk result (λ r. r.plan.bytes ≡ plan.entry) }
 {
     let read = read_plan(plan)?;
     let sum = plan_total(read);
@@ -86,12 +86,11 @@ pub fn read_with_total(plan: &[u8], total: u32) -> Result<Plan<'_>, Refused>
 // Reads a plan and sums its hops: 12, 13, or the plan with its sizes and the sum.
 pub fn read_summed(plan: &[u8]) -> Result<Summed<'_>, Refused>
     ensures says { SummedSays plan.now (summed_of result) }
-    ensures bytes { IfOk result (λ s. s.plan.bytes ≡ plan.entry) }
-    ensures promise { OnOk result (Measured plan.now) }
+    ensures bytes { IfOk result (λ s. s.read.plan.bytes ≡ plan.entry) }
 {
     let read = read_plan(plan)?;
     Ok(Summed {
-        plan: read,
+        read,
         total: plan_total(read),
     })
 }

@@ -1,13 +1,12 @@
 -- A card's address as a part of the plan: its place, and the refusals beside it. Assumes nothing.
-use mathlib.Core.Path.{◌≡◌, refl, sym, ap, ◌∙◌}
+use mathlib.Core.Path.{◌≡◌, refl, sym, ◌∙◌}
 use mathlib.Core.Logic.{◌≢◌}
 use mathlib.Core.List.{List, []}
-use Prim.Native.Nat.{ℕ, ◌+◌, ◌*◌, ◌-◌, ◌/◌, ◌≤◌, ◌<◌}
-use native.Mathlib.Nat.{add-sub_cancel_left}
+use Prim.Native.Nat.{ℕ, ◌≤◌, ◌<◌}
 use native.Mathlib.Omega.{arith}
-use lib.ListN.{length, take, drop}
+use lib.ListN.{take, drop}
 use borrow.Author.Tests.{eq-eqb, ne_eqb, le-leb, lt-leb}
-use Rattle.rack.specs.PlanFile.{plan_cards, plan_columns, address_size, addresses_start, address_start, Sized}
+use Rattle.rack.specs.PlanFile.{plan_cards, plan_columns, address_size, address_start}
 use Rattle.rack.proofs.Logic.{by_eq, by_lt}
 use Rattle.std.specs.Borrow.{Bor}
 use Rattle.std.specs.Prelude.{Result, Ok, Err, IfOk}
@@ -17,7 +16,6 @@ use Rattle.rack.specs.declared.views.Plan.{Plan}
 use Rattle.reader.specs.Reading.{AddressSays, PartIs, ReadSays, address_refusal, card_refusal, offset_unless, part_unless, sizes_of}
 use Rattle.reader.proofs.Reading.{read_laid_out}
 use Rattle.rack.proofs.RefusalNumbers.{refusal_numbered}
-use Rattle.reader.proofs.Addresses.{address_counted}
 
 -- THE NUMBER: the refusal before it, 14 or none
 module _ (x n c : ℕ) where
@@ -49,25 +47,6 @@ module _ (ps : List ℕ) (c x : ℕ) where
       → (offset_unless x ps c ≡ address_start ps c) × (part_unless x ps c ≡ take (address_size (plan_columns ps)) (drop (address_start ps c) ps))
   unfolding offset_unless part_unless
   clear_part e = rw (eq-eqb x 0 e) (refl, refl)
-
--- THE PART THAT IS HANDED OUT of a plan with its sizes
-module _ (ps : List ℕ) (n m k : ℕ) (z : Sized ps n m k) (c : ℕ) (inside : c < n) where
-  abbrev size : ℕ
-  size = address_size k
-
-  abbrev start : ℕ
-  start = addresses_start m + c * size
-
-  counted : (start ≡ address_start ps c) × (start + size ≤ length ps) × (size ≡ (k + 7) / 8)
-  counted = address_counted ps z c size start inside refl refl
-
-  pub address_handed : (at : ℕ × ℕ) → PartIs 0 ps at c (record { ref_ptr = (at.0, start + at.1); now = take (start + size - start) (drop start ps) })
-  address_handed at =
-      let e = clear_part ps c 0 refl in
-      record {
-        place = ap (λ (y : ℕ). (at.0, y + at.1)) (counted.0 ∙ sym e.0);
-        bytes = rw (add-sub_cancel_left, counted.0, z.columns) (sym e.1);
-      }
 
 -- AS READING answers, then 14
 module _ (ps : List ℕ) (at : ℕ × ℕ) (c : ℕ) (p : Plan) (s : ReadSays ps (sizes_of (Ok p))) where

@@ -105,6 +105,7 @@ module _ (ps : List ℕ) (a : Answer) (o out : List ℕ) (w : InnerWritten ps a 
         bytes_decide ∙ sym (g ∙ ap (λ (xs : List ℕ). same eqb xs ps)
         (ap (take (length ps)) written ∙ take_at plan (replicate (length o - length plan) 0) (length ps) (sym length_answered ∙ e)))
 
--- what the forwarder may lean on
-pub read_promise : (ps : List ℕ) (r : Sizes) → ReadSays ps r → r.number ≡ 0 → Measured ps
-read_promise ps r s e = read_measured ps (sym s.number ∙ e)
+-- what the forwarder may lean on, of a plan that passed 12 and 13
+pub content_measured : (ps : List ℕ) {n m k : ℕ} → Sized ps n m k → content_holds ps ≡ true → Measured ps
+unfolding plan_refusal
+content_measured ps z h = read_measured ps (rw (facts_layout ps z, h) refl)

@@ -1,3 +1,4 @@
 pub mod Plan
 pub mod Promises
 pub mod Reading
+pub mod ReadPlans

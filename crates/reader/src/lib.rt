@@ -4,3 +4,4 @@
 pub mod layout;
 pub mod places;
 pub mod read;
+pub mod views;

@@ -1,13 +1,14 @@
 // Reading a plan: refusal 13, by comparison with the plan that the planner writes for the wiring inside; and a card's address.
-ghost use Rattle.std.specs.Prelude.{◌≡◌, ◌+◌, ◌*◌, ◌≤◌, ◌↔◌, ◌++◌, length, take, drop, replicate, slice_index, EachIndex, IfOk, IsTrue, OnOk};
+ghost use Rattle.std.specs.Prelude.{◌≡◌, ◌+◌, ◌*◌, ◌≤◌, ◌↔◌, ◌++◌, length, take, drop, replicate, slice_index, EachIndex, IfOk, IsTrue};
 ghost use Rattle.rack.specs.Buffers.{Appends};
 ghost use Rattle.rack.specs.Limits.{most_links};
 ghost use Rattle.reader.specs.Plan.{content_holds};
-ghost use Rattle.reader.specs.Promises.{Measured};
+ghost use Rattle.reader.specs.ReadPlans.{plan_of};
 ghost use Rattle.reader.specs.Reading.{AddressSays, PartIs, ReadSays, address_refusal, card_refusal, sizes_of};
 ghost use Rattle.rack.specs.Refused.{number_of};
 
 use crate::layout::plan_layout;
+use crate::views::ReadPlan;
 use planner::write_plan;
 use rack::limits::{LENT_PLAN, MOST_LINKS};
 use rack::refused::Refused;
@@ -55,14 +56,13 @@ fn content_holds(plan: Plan<'_>) -> bool
 }
 
 // Reads a plan: 12, 13, or the plan with its sizes.
-pub fn read_plan(plan: &[u8]) -> Result<Plan<'_>, Refused>
-    ensures says { ReadSays plan.now (sizes_of result) }
-    ensures bytes { IfOk result (λ p. p.bytes ≡ plan.entry) }
-    ensures promise { OnOk result (Measured plan.now) }
+pub fn read_plan(plan: &[u8]) -> Result<ReadPlan<'_>, Refused>
+    ensures says { ReadSays plan.now (sizes_of (plan_of result)) }
+    ensures bytes { IfOk result (λ r. r.plan.bytes ≡ plan.entry) }
 {
     let sized = plan_layout(plan)?;
     if content_holds(sized) {
-        Ok(sized)
+        Ok(ReadPlan { plan: sized })
     } else {
         Err(Refused::Content)
     }
@@ -77,8 +77,7 @@ pub fn address_in<'a>(plan: Plan<'a>, card: u32) -> Result<&'a [u8], Refused>
     if plan.cards <= c {
         return Err(Refused::NoCard);
     }
-    let start = plan.address_start(c);
-    Ok(&plan.bytes[start..start + plan.address_size()])
+    Ok(plan.address(c))
 }
 
 // A card's address, as that part of the plan's own bytes: 12, 13, 14.
@@ -86,5 +85,5 @@ pub fn card_address(plan: &[u8], card: u32) -> Result<&[u8], Refused>
     ensures part { IfOk result (AddressSays plan.now plan.entry.ref_ptr card) }
     ensures refusal { number_of result ≡ address_refusal plan.now card }
 {
-    address_in(read_plan(plan)?, card)
+    address_in(read_plan(plan)?.plan, card)
 }

@@ -7,7 +7,7 @@ use Rattle.conference.proofs.conference_sized.Goals.{then-plan-a-via-then-plan-a
 
 pub returns-then-plan-a-clause-says : goal.returns-then-plan-a-clause-says
 returns-then-plan-a-clause-says c =
-    let cards = c.args.plan.sized.cards in
+    let cards = c.args.read.plan.sized.cards in
     says_outside _ _ _ _
     (elim c.then-plan-a.branch [
       | then-plan-a-via-then-plan-a w ↦ inl (omega arith)
@@ -17,6 +17,6 @@ returns-then-plan-a-clause-says c =
 
 pub returns : goal.returns
 returns c =
-    let cards = c.args.plan.sized.cards in
+    let cards = c.args.read.plan.sized.cards in
     let says = says_lowest _ _ _ _ (omega arith) (omega arith) (omega arith) _ c.lowest_median.ensures in
-    record { says = says; promise = (with_promise _ _ _ _ 0 (λ _. c.requires) _ says).1 refl }
+    record { says = says; promise = (with_promise _ _ _ _ 0 (λ _. c.args.read.measured) _ says).1 refl }

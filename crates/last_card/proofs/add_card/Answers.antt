@@ -26,25 +26,25 @@ returns-in_err-length c =
     let lent = c.in-Some.ensures.cases in
     let read = c.in_ok-read.ensures in
     rw (p.1, p.2)
-    (adding_refused c.args.plan.now _ c.in_ok-read.read read.says c.args.output.now _ lent.long _ _
+    (adding_refused c.args.plan.now _ c.in_ok-read.read.plan read.says c.args.output.now _ lent.long _ _
     (rw (read.bytes, lent.same) at c.in_err-length.ensures))
 
 pub overflow_add-result : goal.overflow_add-result
 overflow_add-result c =
-    let p = c.in_ok-read.read in
+    let p = c.in_ok-read.read.plan in
     omega (arith, total_fits _ _ p c.in_ok-read.ensures.says, p.sized.few)
 
 pub hops_from-requires : goal.hops_from-requires
 hops_from-requires c =
     let lent = c.in-Some.ensures.cases in
     let read = c.in_ok-read.ensures in
-    let inside = add_inside c.args.plan.now _ c.in_ok-read.read read.says c.args.output.now _ lent.long c.args.card _
+    let inside = add_inside c.args.plan.now _ c.in_ok-read.read.plan read.says c.args.output.now _ lent.long c.args.card _
     (rw (read.bytes, lent.same) at c.in_ok-length.ensures) in
-    (rw read.bytes read.promise, inside)
+    inside
 
 pub overflow_add-result-2 : goal.overflow_add-result-2
 overflow_add-result-2 c =
-    let p = c.in_ok-read.read in
+    let p = c.in_ok-read.read.plan in
     let read = c.in_ok-read.ensures in
     omega (
       arith,
@@ -57,5 +57,5 @@ pub returns : goal.returns
 returns c =
     let lent = c.in-Some.ensures.cases in
     let read = c.in_ok-read.ensures in
-    add_answered c.args.plan.now _ c.in_ok-read.read read.says c.args.output.now _ lent.long c.args.card _
+    add_answered c.args.plan.now _ c.in_ok-read.read.plan read.says c.args.output.now _ lent.long c.args.card _
     (rw (read.bytes, lent.same) at c.in_ok-length.ensures) _ (rw read.bytes at c.hops_from.ensures)

@@ -26,11 +26,11 @@ returns-in_err-length c =
     let lent = c.in-Some.ensures.cases in
     let read = c.in_ok-read.ensures in
     rw (p.1, p.2)
-    (taking_off_refused c.args.plan.now _ c.in_ok-read.read read.says c.args.output.now _ lent.long _
+    (taking_off_refused c.args.plan.now _ c.in_ok-read.read.plan read.says c.args.output.now _ lent.long _
     (rw (read.bytes, lent.same) at c.in_err-length.ensures))
 
 pub hops_from-requires : goal.hops_from-requires
-hops_from-requires c = let read = c.in_ok-read.ensures in (rw read.bytes read.promise, omega (arith, c.in_ok-read.read.sized.some))
+hops_from-requires c = omega (arith, c.in_ok-read.read.plan.sized.some)
 
 pub overflow_sub-result : goal.overflow_sub-result
 overflow_sub-result c =
@@ -39,12 +39,12 @@ overflow_sub-result c =
     omega (
       arith,
       rw read.bytes at c.hops_from.ensures,
-      take_off_sum c.args.plan.now _ c.in_ok-read.read read.says c.args.output.now _ lent.long _ (rw (read.bytes, lent.same) at c.in_ok-length.ensures),
+      take_off_sum c.args.plan.now _ c.in_ok-read.read.plan read.says c.args.output.now _ lent.long _ (rw (read.bytes, lent.same) at c.in_ok-length.ensures),
     )
 
 pub returns : goal.returns
 returns c =
     let lent = c.in-Some.ensures.cases in
     let read = c.in_ok-read.ensures in
-    take_off_answered c.args.plan.now _ c.in_ok-read.read read.says c.args.output.now _ lent.long _
+    take_off_answered c.args.plan.now _ c.in_ok-read.read.plan read.says c.args.output.now _ lent.long _
     (rw (read.bytes, lent.same) at c.in_ok-length.ensures) _ (rw read.bytes at c.hops_from.ensures)

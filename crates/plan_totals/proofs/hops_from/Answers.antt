@@ -9,19 +9,19 @@ use Rattle.plan_totals.proofs.hops_from.Goals.{After-plan_hamming-sum}
 
 -- one card more
 module _ (c : After-plan_hamming-sum) where
-  added : c.loop-c.sum + c.plan_hamming-sum.result ≡ hops_to (plan_wiring c.args.plan.bytes.now) (c.loop-c.c + 1) c.args.card
+  added : c.loop-c.sum + c.plan_hamming-sum.result ≡ hops_to (plan_wiring c.args.read.plan.bytes.now) (c.loop-c.c + 1) c.args.card
   added =
-      hops_more _ c.args.plan.sized c.requires.0 c.args.card c.requires.1 c.loop-c.c c.loop-c.sum c.plan_hamming-sum.result
+      hops_more _ c.args.read.plan.sized c.args.read.measured c.args.card c.requires c.loop-c.c c.loop-c.sum c.plan_hamming-sum.result
       (omega arith) c.loop-c.invariant c.plan_hamming-sum.ensures
 
-  few : hops_to (plan_wiring c.args.plan.bytes.now) (c.loop-c.c + 1) c.args.card ≤ (c.loop-c.c + 1) * most_cards
-  few = hops_few _ c.args.plan.sized c.requires.0 c.args.card c.requires.1 (c.loop-c.c + 1) (omega arith)
+  few : hops_to (plan_wiring c.args.read.plan.bytes.now) (c.loop-c.c + 1) c.args.card ≤ (c.loop-c.c + 1) * most_cards
+  few = hops_few _ c.args.read.plan.sized c.args.read.measured c.args.card c.requires (c.loop-c.c + 1) (omega arith)
 
 pub loop-c-init : goal.loop-c-init
-loop-c-init c = sym (hops_none c.args.plan.bytes.now c.args.card)
+loop-c-init c = sym (hops_none c.args.read.plan.bytes.now c.args.card)
 
 pub overflow_add-sum : goal.overflow_add-sum
-overflow_add-sum c = omega (arith, added c, few c, c.args.plan.sized.few)
+overflow_add-sum c = omega (arith, added c, few c, c.args.read.plan.sized.few)
 
 pub loop-c-preserved : goal.loop-c-preserved
 loop-c-preserved c = added c

@@ -4,4 +4,4 @@ use Rattle.plan_totals.proofs.Summing.{products_total}
 use Rattle.plan_totals.proofs.plan_total.Goals as goal
 
 pub returns : goal.returns
-returns c = c.products.ensures ∙ products_total _ c.args.plan.sized c.requires
+returns c = c.products.ensures ∙ products_total _ c.args.read.plan.sized c.args.read.measured
