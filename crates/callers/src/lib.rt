@@ -12,7 +12,7 @@ use traffic::{Traffic, caller_fault};
 use turns::frames::Frame;
 
 // Whether a walk arrived or is stuck, its hops, the first column crossed, and the counts handed back.
-#[derive(Clone, Copy)]
+#[derive(Clone, Copy, Debug, PartialEq, Eq)]
 pub struct CallerWalk {
     pub arrived: bool,
     pub hops: u32,

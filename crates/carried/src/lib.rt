@@ -14,7 +14,7 @@ use reader::views::ReadPlan;
 use traffic::Traffic;
 
 // The fields may have any values: no call trusts them, and steps and walks do not look at the sum.
-#[derive(Clone, Copy)]
+#[derive(Clone, Copy, Debug, PartialEq, Eq)]
 pub struct Opened<'a> {
     pub bytes: &'a [u8],
     pub cards: u32,

@@ -10,7 +10,7 @@ use rack::limits::LENT_PLAN;
 use rack::refused::Refused;
 
 // The length of the new plan and the sum of its hops.
-#[derive(Clone, Copy)]
+#[derive(Clone, Copy, Debug, PartialEq, Eq)]
 pub struct SummedPlan {
     pub length: u32,
     pub total: u32,

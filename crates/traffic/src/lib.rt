@@ -11,7 +11,7 @@ use rack::refused::Refused;
 use reader::layout::plan_layout;
 
 // For each caller: frames that arrived, their hops, and turns. Three arrays, for a choice of frames is lent the turns alone.
-#[derive(Clone, Copy)]
+#[derive(Clone, Copy, Debug, PartialEq, Eq)]
 pub struct Traffic {
     pub frames: [u32; MOST_CALLERS],
     pub hops: [u32; MOST_CALLERS],
