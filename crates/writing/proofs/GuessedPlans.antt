@@ -20,9 +20,10 @@ use Rattle.plan_writer.specs.Writing.{word_byte, written_bytes}
 use Rattle.planner.specs.PlanBytes.{plan_bytes}
 use Rattle.planner.proofs.WriteAnswer.{ends_written}
 use Rattle.rack.specs.declared.refused.Refused.{Refused}
-use Rattle.rack.specs.declared.views.Plan.{Plan}
 use Rattle.reader.specs.Plan.{plan_refusal}
 use Rattle.reader.specs.Reading.{ReadSays, sizes_of}
+use Rattle.reader.specs.ReadPlans.{plan_of}
+use Rattle.reader.specs.declared.views.ReadPlan.{ReadPlan}
 use Rattle.reader.proofs.Plan.{plan_clear}
 use Rattle.writing.specs.Guessing.{Bytes, GuessIs}
 
@@ -75,6 +76,6 @@ module _ (bs ws : List ℕ) (k : ℕ) (bytes : Bytes bs) where
         }
 
 -- what is read is not refused
-pub read_clear : (ps : List ℕ) (r : Result Plan Refused) → true ≡ is_ok r → ReadSays ps (sizes_of r) → plan_refusal ps ≡ 0
+pub read_clear : (ps : List ℕ) (r : Result ReadPlan Refused) → true ≡ is_ok r → ReadSays ps (sizes_of (plan_of r)) → plan_refusal ps ≡ 0
 read_clear ps (Ok p) t says = sym says.number
 read_clear ps (Err e) t says = true_not_false true refl t

@@ -1,28 +1,16 @@
 -- What writing says of an accepted file, whatever stood in the buffer. Assumes nothing.
-use mathlib.Core.Path.{◌≡◌, refl, sym, ap, ap₂, ◌∙◌}
+use mathlib.Core.Path.{◌≡◌, refl, sym, ◌∙◌}
 use mathlib.Core.Logic.{◌≢◌}
-use mathlib.Core.List.{List, ◌++◌}
-use Prim.Native.Nat.{ℕ, ◌+◌, ◌*◌}
-use native.Mathlib.Omega.{arith}
+use mathlib.Core.List.{List}
+use Prim.Native.Nat.{ℕ}
 use lib.ListN.{length}
 use borrow.Author.Tests.{eq-eqb, ne_eqb}
-use Rattle.rack.specs.Lists.{blocks}
-use Rattle.rack.specs.Wiring.{Link, link_at}
-use Rattle.rack.specs.Columns.{column_count, address}
-use Rattle.rack.specs.Refusals.{Refusal, links_refusal, rack_refusal, wiring_refusal}
-use Rattle.rack.specs.Buffers.{number_at, two_bytes, Written}
-use Rattle.rack.specs.WiringFile.{file_wiring, file_refusal, end_bytes}
-use Rattle.rack.proofs.Tables.{blocks_ext, blocks_add}
-use Rattle.rack.proofs.Refusals.{or_else_clear}
-use Rattle.rack.proofs.Acceptance.{embedding_accepted}
-use Rattle.rack.proofs.Accepted.{wiring_accepted, file_clear}
-use Rattle.rack.proofs.WiringFile.{sized_clear, wiring_at_cards, wiring_at_count, wiring_at_link}
+use Rattle.rack.specs.Buffers.{Written}
+use Rattle.rack.specs.WiringFile.{file_wiring, file_refusal}
 use Rattle.planner.specs.PlanBytes.{plan_bytes}
 use Rattle.rack.specs.Limits.{lent_plan}
 use Rattle.planner.specs.Planning.{left_in, writing_refusal, WriteSays}
-use Rattle.plan_writer.specs.Writing.{end_pair}
 use Rattle.planner.specs.Answer.{Answer}
-use Rattle.planner.proofs.Answers.{refusal_of_rack}
 use Rattle.planner.proofs.WriteAnswer.{at_zero}
 use Rattle.planner.proofs.PlanAnswer.{file_not_one, left_filled}
 

@@ -1,6 +1,5 @@
 -- What a guessed plan leaves in the lent bytes. Assumes nothing: these are definitions.
-use Rattle.std.specs.Prelude.{◌≡◌, List, ℕ, ◌<◌, length, get_or, replicate, Option, MatchOption}
-use Rattle.rack.specs.Limits.{lent_plan}
+use Rattle.std.specs.Prelude.{◌≡◌, List, ℕ, ◌<◌, length, get_or}
 use Rattle.rack.specs.Buffers.{Written}
 use Rattle.rack.specs.WiringFile.{file_wiring, file_refusal}
 use Rattle.planner.specs.PlanBytes.{plan_bytes}
@@ -10,10 +9,6 @@ pub record GuessIs (bs out : List ℕ) (long : ℕ) : Type 0 where
   pub accepted : (file_refusal bs).number ≡ 0
   pub is : long ≡ length (plan_bytes (file_wiring bs))
   pub written : Written out (plan_bytes (file_wiring bs))
-
--- none, and zeros; or a length
-abbrev pub GuessSays : List ℕ → Option ℕ → List ℕ → Type 0
-GuessSays bs r out = MatchOption r (out ≡ replicate lent_plan 0) (GuessIs bs out)
 
 -- each item is a byte; a view does not say it of what it borrows
 abbrev pub Bytes : List ℕ → Type 0

@@ -2,12 +2,11 @@
 // its hops, which alone says that a rack is refused.
 #![tactic(auto)]
 
-ghost use Rattle.std.specs.Prelude.{◌≡◌, replicate};
-ghost use Rattle.rack.specs.Limits.{lent_plan};
+ghost use Rattle.std.specs.Prelude.{IfSome};
 ghost use Rattle.rack.specs.WiringFile.{file_wiring};
 ghost use Rattle.planner.specs.Answer.{answer_of};
 ghost use Rattle.planner.specs.Planning.{AskedToWrite, PlanFound, WriteSays};
-ghost use Rattle.writing.specs.Guessing.{Bytes, GuessSays};
+ghost use Rattle.writing.specs.Guessing.{Bytes, GuessIs};
 
 use column_guess::guess_columns;
 use plan_writer::put_plan;
@@ -17,32 +16,30 @@ use rack::views::SizedFile;
 use reader::read::read_plan;
 use survey::links::sized_file;
 
-// Writes the plan of a file that passed 2 to 5 with columns that are guessed, and gives its length where it is read; else none, and nothing
-// is written. The buffer is zero at entry.
+// Writes the plan of a file that passed 2 to 5 with columns that are guessed, and gives its length where it is read; else none, whatever
+// stands in the buffer then.
 fn guessed_plan(file: SizedFile<'_>, last: bool, output: &mut [u8; LENT_PLAN]) -> Option<usize>
-    requires { Bytes file.bytes.now × (output.old ≡ replicate lent_plan 0) }
-    ensures { GuessSays file.entry.bytes.now result output.new }
+    requires { Bytes file.bytes.now }
+    ensures { IfSome result (GuessIs file.entry.bytes.now output.new) }
 {
     let mut words = [0u64; LENT_WORDS];
     let k = guess_columns(file, last, &mut words)?;
-    let length = put_plan(file, k, &words, output);
-    if read_plan(&output[0..length]).is_ok() {
-        return Some(length);
-    }
     output.fill(0);
-    None
+    let length = put_plan(file, k, &words, output);
+    read_plan(&output[0..length]).ok()?;
+    Some(length)
 }
 
 // The same by one guess, and where its plan is not read by another. The guess has two callers, and so a stack frame of its own, which is gone
 // before the rack is planned from its hops.
 fn guess_plan(file: SizedFile<'_>, output: &mut [u8; LENT_PLAN]) -> Option<usize>
-    requires { Bytes file.bytes.now × (output.old ≡ replicate lent_plan 0) }
-    ensures { GuessSays file.entry.bytes.now result output.new }
+    requires { Bytes file.bytes.now }
+    ensures { IfSome result (GuessIs file.entry.bytes.now output.new) }
 {
-    // A match and no `or_else`: the second guess asks for the zeros that the first leaves with none.
+    // A match and no `or_else`, of which std does not say what stands in the buffer where no second guess is made.
     match guessed_plan(file, false, output) {
-        Some(length) => Some(length),
         None => guessed_plan(file, true, output),
+        guess => guess,
     }
 }
 
@@ -54,10 +51,10 @@ pub fn write_plan(file: &[u8], output: &mut [u8]) -> Result<u32, Refused>
     let Some(output) = output.as_mut_array::<LENT_PLAN>() else {
         return Err(Refused::Lent);
     };
-    output.fill(0);
-    let sized = sized_file(file)?;
-    match guess_plan(sized, output) {
-        Some(length) => Ok(length as u32),
-        None => planner::write_plan(file, output),
+    if let Ok(sized) = sized_file(file)
+        && let Some(length) = guess_plan(sized, output)
+    {
+        return Ok(length as u32);
     }
+    planner::write_plan(file, output)
 }
