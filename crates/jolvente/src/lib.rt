@@ -37,7 +37,7 @@ pub fn jolvente_write_plan(wiring: &[u8], plan: &mut [u8], record: &mut [u8]) ->
         }
         Err(refused) => {
             record.fill(0);
-            refused.number() + 256 * refused.place()
+            refused.number() + 256 * refused.place().unwrap_or(0)
         }
     }
 }
@@ -51,12 +51,12 @@ pub fn jolvente_read_plan(plan: &[u8], record: &mut [u8]) -> u32
         return 1;
     };
     match read_plan(plan) {
-        Ok(sized) => {
+        Ok(read) => {
             put_record(
                 record,
-                sized.cards as u32,
-                sized.links as u32,
-                sized.columns as u32,
+                read.plan.cards as u32,
+                read.plan.links as u32,
+                read.plan.columns as u32,
                 0,
             );
             0

@@ -2,6 +2,7 @@
 ghost use Rattle.std.specs.Prelude.{◌≡◌, length, replicate, unwrap_or};
 ghost use Rattle.rack.specs.Refused.{number_of, refusal_of};
 ghost use Rattle.planner.specs.Answer.{answer_of};
+ghost use Rattle.reader.specs.ReadPlans.{plan_of};
 ghost use Rattle.reader.specs.Reading.{sizes_of};
 ghost use Rattle.crossing.specs.Crossing.{frame_step_of, frame_walk_of, places_of};
 ghost use Rattle.conference.specs.Conference.{conference_of, found_of};
@@ -20,7 +21,7 @@ use last_card::SummedPlan;
 use plan_totals::Summed;
 use rack::limits::MOST_CALLERS;
 use rack::refused::Refused;
-use rack::views::Plan;
+use reader::views::ReadPlan;
 use traffic::Traffic;
 
 // Zeros in place of the fields of what is refused; gives the refusal's number.
@@ -52,18 +53,19 @@ pub fn put_answer(a: Result<u32, Refused>, answer: &mut [u32; 2]) -> u32
             0
         }
         Err(refused) => {
-            *answer = [refused.place(), 0];
+            *answer = [refused.place().unwrap_or(0), 0];
             refused.number()
         }
     }
 }
 
 // The three sizes.
-pub fn put_sizes(s: Result<Plan<'_>, Refused>, answer: &mut [u32; 3]) -> u32
-    ensures { sizes_in result answer.new ≡ sizes_of s.entry }
+pub fn put_sizes(s: Result<ReadPlan<'_>, Refused>, answer: &mut [u32; 3]) -> u32
+    ensures { sizes_in result answer.new ≡ sizes_of (plan_of s.entry) }
 {
     match s {
-        Ok(p) => {
+        Ok(read) => {
+            let p = read.plan;
             *answer = [p.cards as u32, p.links as u32, p.columns as u32];
             0
         }
@@ -178,7 +180,7 @@ pub fn put_summed(s: Result<Summed<'_>, Refused>, answer: &mut [u32; 4]) -> u32
 {
     match s {
         Ok(s) => {
-            let p = s.plan;
+            let p = s.read.plan;
             *answer = [p.cards as u32, p.links as u32, p.columns as u32, s.total];
             0
         }
