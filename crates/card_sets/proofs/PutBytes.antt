@@ -1,25 +1,12 @@
 -- The bytes of a word put below the bits of eight others, byte by byte. Assumes nothing.
-use mathlib.Core.Path.{◌≡◌, refl, ap₂, ◌∙◌}
+use mathlib.Core.Path.{◌≡◌, ap₂, ◌∙◌}
 use mathlib.Core.List.{List}
-use Prim.Native.Nat.{ℕ, zero, suc, ◌+◌, ◌*◌, ◌/◌, ◌%◌, ◌^◌, ◌<◌}
-use Rattle.std.specs.Int.{w64, to_le_bytes}
+use Prim.Native.Nat.{ℕ, ◌+◌, ◌*◌, ◌/◌, ◌%◌, ◌^◌, ◌<◌}
 use native.Mathlib.Omega.{arith}
 use lib.ListN.{length, get_or, set, length-set}
 use lib.Seq.{get_or-set_same, get_or-set_other}
 use Rattle.rack.proofs.Logic.{by_eq}
 use Rattle.card_sets.specs.WordBytes.{BytesPut}
-
--- the bytes of a word, lowest first
-pub le_byte : (z j : ℕ) → j < 8 → get_or (to_le_bytes w64 z) j 0 ≡ z / 256 ^ j % 256
-le_byte z zero h = omega arith
-le_byte z (suc zero) h = refl
-le_byte z (suc (suc zero)) h = refl
-le_byte z (suc (suc (suc zero))) h = refl
-le_byte z (suc (suc (suc (suc zero)))) h = refl
-le_byte z (suc (suc (suc (suc (suc zero))))) h = refl
-le_byte z (suc (suc (suc (suc (suc (suc zero)))))) h = refl
-le_byte z (suc (suc (suc (suc (suc (suc (suc zero))))))) h = refl
-le_byte z (suc (suc (suc (suc (suc (suc (suc (suc j)))))))) h = absurd (omega arith)
 
 module _ (word at : ℕ) (old mid : List ℕ) (j : ℕ) (put : BytesPut word at old mid j) where
   -- the next word is still as it was

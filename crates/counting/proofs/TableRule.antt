@@ -4,17 +4,19 @@ use mathlib.Core.Bool.{Bool, true}
 use mathlib.Core.List.{List}
 use Prim.Native.Nat.{ℕ, zero, suc, ◌+◌, ◌*◌, ◌/◌, ◌%◌, ◌^◌, ◌≤◌, ◌<◌}
 use Rattle.std.specs.Int.{w64, to_le_bytes}
+use native.Mathlib.Nat.{pow-succ'}
 use native.Mathlib.Omega.{arith}
 use lib.Bits.{bit_xor, xor_lt, xor_mod, xor_shr}
 use lib.Dec.{eqb}
 use lib.ListN.{get_or}
+use lib.Pow.{pow-add}
 use borrow.Author.Tests.{eqb-true, eq-eqb}
 use Rattle.rack.specs.Lists.{differ, count, range}
 use Rattle.rack.specs.Bits.{number_bit}
 use Rattle.rack.specs.Columns.{hamming}
 use Rattle.rack.proofs.Lists.{all_in, in_all, count_ext, count_le_length}
 use Rattle.rack.proofs.Tables.{length_tabulate, in_range, range_in, count_range_add}
-use Rattle.rack.proofs.Bits.{number_bit_high, number_bit_low}
+use Rattle.rack.proofs.Bits.{le_byte, number_bit_high, number_bit_low}
 use Rattle.counting.specs.Ones.{ones_in, Counts, table_holds}
 
 -- THE BITS of an exclusive or
@@ -48,21 +50,16 @@ ones_byte z n =
     (λ i m. sym (number_bit_low (z / 2 ^ n) 8 i (range_in 8 i m) ∙ number_bit_high z n i)))
 
 -- and that byte, among the eight of a word
-le_byte : (z i : ℕ) → i < 8 → get_or (to_le_bytes w64 z) i 0 ≡ z / 2 ^ (8 * i) % 256
-le_byte z zero h = omega arith
-le_byte z (suc zero) h = refl
-le_byte z (suc (suc zero)) h = refl
-le_byte z (suc (suc (suc zero))) h = refl
-le_byte z (suc (suc (suc (suc zero)))) h = refl
-le_byte z (suc (suc (suc (suc (suc zero))))) h = refl
-le_byte z (suc (suc (suc (suc (suc (suc zero)))))) h = refl
-le_byte z (suc (suc (suc (suc (suc (suc (suc zero))))))) h = refl
-le_byte z (suc (suc (suc (suc (suc (suc (suc (suc i)))))))) h = absurd (omega arith)
+byte_weight : (i : ℕ) → 256 ^ i ≡ 2 ^ (8 * i)
+byte_weight zero = refl
+byte_weight (suc i) =
+    let e : 8 * suc i ≡ 8 + 8 * i = omega arith in
+    rw (e, pow-add 2 8 (8 * i), ← (byte_weight i)) (pow-succ' 256 i)
 
 pub ones_le_byte : (z i : ℕ) → i < 8 → ones_in (8 * (i + 1)) z ≡ ones_in (8 * i) z + ones_in 8 (get_or (to_le_bytes w64 z) i 0)
 ones_le_byte z i h =
     let e : 8 * (i + 1) ≡ 8 * i + 8 = omega arith in
-    rw (e, le_byte z i h) (ones_byte z (8 * i))
+    rw (e, le_byte z i h, byte_weight i) (ones_byte z (8 * i))
 
 pub ones_none : (z : ℕ) → ones_in 0 z ≡ 0
 unfolding ones_in

@@ -1,11 +1,13 @@
--- Numbers and their bits: the bits of a value and of its parts; one bit more, and its weight. Assumes nothing.
+-- Numbers and their bits: the bits of a value and of its parts; one bit more, and its weight; the bytes of a word. Assumes nothing.
 use mathlib.Core.Path.{◌≡◌, refl, sym, ap, ap₂, ◌∙◌}
 use mathlib.Core.Bool.{Bool, true, false}
 use mathlib.Core.Logic.{◌≢◌}
 use Prim.Native.Nat.{ℕ, zero, suc, ◌+◌, ◌*◌, ◌-◌, ◌/◌, ◌%◌, ◌^◌, ◌≤◌, ◌<◌}
+use Rattle.std.specs.Int.{w64, to_le_bytes}
 use native.Mathlib.Nat.{div-div-eq-div-mul, mul-one, mul_left_comm, pow-succ'}
 use native.Mathlib.Omega.{arith}
 use lib.Dec.{eqb}
+use lib.ListN.{get_or}
 use lib.Pow.{field, mod-mod-pow, mod-pow-add, pow_pos, shl_exact, shr-shr}
 use Rattle.rack.specs.Lists.{one}
 use Rattle.rack.specs.Bits.{number_bit, bits_value}
@@ -148,3 +150,15 @@ bits_value_low (suc b) r f =
 
 pub bits_value_part : (a b r : ℕ) (f : ℕ → Bool) → bits_value (a + (b + r)) f / 2 ^ a % 2 ^ b ≡ bits_value b (λ i. f (a + i))
 bits_value_part a b r f = ap (λ (x : ℕ). x % 2 ^ b) (bits_value_high a (b + r) f) ∙ bits_value_low b r (λ i. f (a + i))
+
+-- THE BYTES of a word, lowest first
+pub le_byte : (z i : ℕ) → i < 8 → get_or (to_le_bytes w64 z) i 0 ≡ z / 256 ^ i % 256
+le_byte z zero h = omega arith
+le_byte z (suc zero) h = refl
+le_byte z (suc (suc zero)) h = refl
+le_byte z (suc (suc (suc zero))) h = refl
+le_byte z (suc (suc (suc (suc zero)))) h = refl
+le_byte z (suc (suc (suc (suc (suc zero))))) h = refl
+le_byte z (suc (suc (suc (suc (suc (suc zero)))))) h = refl
+le_byte z (suc (suc (suc (suc (suc (suc (suc zero))))))) h = refl
+le_byte z (suc (suc (suc (suc (suc (suc (suc (suc i)))))))) h = absurd (omega arith)

@@ -4,7 +4,8 @@ use mathlib.Core.List.{List}
 use Prim.Native.Nat.{ℕ}
 use native.Mathlib.Omega.{arith}
 use lib.ListN.{get_or}
-use Rattle.card_sets.proofs.PutBytes.{more_put, le_byte}
+use Rattle.rack.proofs.Bits.{le_byte}
+use Rattle.card_sets.proofs.PutBytes.{more_put}
 use Rattle.card_sets.proofs.columns.put_bytes.Goals as goal
 
 pub loop-j-preserved : goal.loop-j-preserved
