@@ -13,9 +13,9 @@ use Rattle.rack.specs.Bits.{number_bit, bits_value}
 use Rattle.rack.specs.PlanFile.{Sized, plan_bit, address_size, addresses_start, address_start}
 use Rattle.rack.proofs.Logic.{by_eq}
 use Rattle.rack.proofs.Bits.{bits_value_fits}
-use Rattle.rack.proofs.PlanFile.{address_size_is}
+use Rattle.rack.proofs.PlanFile.{address_counted, address_size_is}
 use Rattle.rack.proofs.Zeros.{zeros_long, zeros_at}
-use Rattle.plan_tests.proofs.Places.{byte_bit, address_counted}
+use Rattle.plan_tests.proofs.Places.{byte_bit}
 use Rattle.card_sets.specs.Sets.{set_word, ColumnWords}
 use Rattle.card_sets.specs.WordBytes.{bytes_value, BytesPut, EightWritten}
 use Rattle.card_sets.proofs.WordBytes.{byte_at}

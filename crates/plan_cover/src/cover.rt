@@ -63,14 +63,6 @@ fn join_sides(
     }
 }
 
-// Whether card `c` has 1 in column `j`.
-fn card_bit(plan: Plan<'_>, c: usize, j: usize) -> bool
-    requires { (c < plan.cards) × (j < plan.columns) }
-    ensures { result ≡ plan_bit plan.entry.bytes.now c j }
-{
-    (plan.bytes[plan.address_start(c) + j / 8] >> (j % 8)) % 2 == 1
-}
-
 // Joins the far sides of all links to the sets of their ends.
 fn join_links(
     plan: Plan<'_>,
@@ -86,7 +78,7 @@ fn join_links(
         let p = plan.first_end(i);
         let q = plan.second_end(i);
         let j = usize::from(crossed[i]);
-        join_sides(columns, full, p, q, j, card_bit(plan, p, j), cover);
+        join_sides(columns, full, p, q, j, plan.bit(p, j), cover);
     }
 }
 

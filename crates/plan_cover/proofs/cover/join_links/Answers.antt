@@ -34,8 +34,8 @@ known c =
 pub loop-i-init : goal.loop-i-init
 loop-i-init c = c.requires.5
 
-pub card_bit-requires : goal.card_bit-requires
-card_bit-requires c = let k = known (goal.at.card_bit-requires c).After-from-j in (k.0, k.3)
+pub bit-requires : goal.bit-requires
+bit-requires c = let k = known (goal.at.bit-requires c).After-from-j in (k.0, k.3)
 
 pub join_sides-requires : goal.join_sides-requires
 join_sides-requires c =
@@ -54,8 +54,8 @@ loop-i-preserved c =
     let z = c.args.plan in
     let k = known (goal.at.loop-i-preserved c).After-from-j in
     more_covered z.bytes.now z.cards z.links z.columns z.sized c.requires.1 c.loop-i.i (omega arith) c.from-j.result k.4
-    c.first_end-p.result c.second_end-q.result c.card_bit.result c.args.columns.now c.args.full.now c.loop-i.cover _
-    c.first_end-p.ensures.is c.second_end-q.ensures.is c.card_bit.ensures
+    c.first_end-p.result c.second_end-q.result c.bit.result c.args.columns.now c.args.full.now c.loop-i.cover _
+    c.first_end-p.ensures.is c.second_end-q.ensures.is c.bit.ensures
     c.requires.3 c.requires.4 c.join_sides.ensures c.loop-i.invariant
 
 pub returns : goal.returns
