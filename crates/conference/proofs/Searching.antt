@@ -14,13 +14,12 @@ use Rattle.rack.specs.Lists.{lowest, FoundBelow}
 use Rattle.rack.specs.Wiring.{Wiring}
 use Rattle.rack.proofs.Searches.{found_lowest}
 use Rattle.rack.proofs.WiringFile.{wiring_at_cards}
-use Rattle.reader.specs.Promises.{Measured}
 use Rattle.conference.specs.Conference.{between, median, conference}
 use Rattle.conference.specs.Callers.{CallersAre}
 
 module _ (ps : List ℕ) {n m k : ℕ} (l : Sized ps n m k) where
   -- THE TEST of card x, from the counts as they are made
-  module _ (read : Measured ps) {a b c ab ac bc : ℕ} (z : CallersAre ps a b c ab ac bc) (x : ℕ) (h : x < n) where
+  module _ {a b c ab ac bc : ℕ} (z : CallersAre ps a b c ab ac bc) (x : ℕ) (h : x < n) where
     abbrev tested : Bool
     tested = median (plan_wiring ps) a b c x
 
@@ -31,9 +30,9 @@ module _ (ps : List ℕ) {n m k : ℕ} (l : Sized ps n m k) where
       tested_counted =
           let cards = wiring_at_cards 6 ps in
           rw (
-            e ∙ read.measured a x z.first (omega (arith, l.cards)),
-            f ∙ read.measured x b (omega (arith, l.cards)) z.second,
-            g ∙ read.measured x c (omega (arith, l.cards)) z.third,
+            e ∙ z.read.measured a x z.first (omega (arith, l.cards)),
+            f ∙ z.read.measured x b (omega (arith, l.cards)) z.second,
+            g ∙ z.read.measured x c (omega (arith, l.cards)) z.third,
             hops_sym (plan_wiring ps) b x (omega (arith, z.second)) (omega (arith, l.cards)),
             z.first_second,
             z.first_third,

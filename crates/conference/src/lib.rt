@@ -6,23 +6,23 @@ ghost use Rattle.rack.specs.PlanFile.{plan_cards};
 ghost use Rattle.conference.specs.Callers.{CallersAre};
 ghost use Rattle.conference.specs.Conference.{CardOrNone, ConferenceIs, ConferenceSays, conference_of, three_refusal};
 
-use counting::ones::{Ones, ones_table};
+use counting::ones::ones_table;
+use counting::plans::CountedPlan;
 use rack::refused::Refused;
-use reader::places::plan_hamming;
 use reader::read::read_plan;
 use reader::views::ReadPlan;
 
 // Three cards of a plan that was read, and the hops between each two of them.
 #[derive(Clone, Copy)]
 struct Callers<'a> {
-    read: ReadPlan<'a>,
+    counted: CountedPlan<'a>,
     a: usize,
     b: usize,
     c: usize,
     ab: u32,
     ac: u32,
     bc: u32,
-    ghost hops: { CallersAre read.plan.bytes.now a b c ab ac bc },
+    ghost hops: { CallersAre counted.plan.bytes.now a b c ab ac bc },
 }
 
 impl<'a> Callers<'a> {
@@ -31,24 +31,24 @@ impl<'a> Callers<'a> {
     ghost use Rattle.conference.specs.Conference.{conference, median};
 
     // Whether card `x` is on a shortest path between each two of the three.
-    fn is_median(self, ones: &Ones, x: usize) -> bool
-        requires { x < self.read.plan.cards }
-        ensures { result ≡ median (plan_wiring self.entry.read.plan.bytes.now) self.entry.a self.entry.b self.entry.c x }
+    fn is_median(self, x: usize) -> bool
+        requires { x < self.counted.plan.cards }
+        ensures { result ≡ median (plan_wiring self.entry.counted.plan.bytes.now) self.entry.a self.entry.b self.entry.c x }
     {
-        let from_a = plan_hamming(ones, self.read.plan, self.a, x);
-        let to_b = plan_hamming(ones, self.read.plan, x, self.b);
+        let from_a = self.counted.hamming(self.a, x);
+        let to_b = self.counted.hamming(x, self.b);
         if from_a + to_b != self.ab {
             return false;
         }
-        let to_c = plan_hamming(ones, self.read.plan, x, self.c);
+        let to_c = self.counted.hamming(x, self.c);
         from_a + to_c == self.ac && to_b + to_c == self.bc
     }
 
     // The lowest card that is on a shortest path between each two of the three.
-    fn lowest_median(self, ones: &Ones) -> Option<u32>
-        ensures { MatchOption result (plan_cards self.entry.read.plan.bytes.now ≤ conference (plan_wiring self.entry.read.plan.bytes.now) self.entry.a self.entry.b self.entry.c) (λ x. (x < plan_cards self.entry.read.plan.bytes.now) × (x ≡ conference (plan_wiring self.entry.read.plan.bytes.now) self.entry.a self.entry.b self.entry.c)) }
+    fn lowest_median(self) -> Option<u32>
+        ensures { MatchOption result (plan_cards self.entry.counted.plan.bytes.now ≤ conference (plan_wiring self.entry.counted.plan.bytes.now) self.entry.a self.entry.b self.entry.c) (λ x. (x < plan_cards self.entry.counted.plan.bytes.now) × (x ≡ conference (plan_wiring self.entry.counted.plan.bytes.now) self.entry.a self.entry.b self.entry.c)) }
     {
-        (0..self.read.plan.cards as u32).find(|x| self.is_median(ones, *x as usize))
+        (0..self.counted.plan.cards as u32).find(|x| self.is_median(*x as usize))
     }
 }
 
@@ -63,16 +63,17 @@ pub fn conference_sized(read: ReadPlan<'_>, a: u32, b: u32, c: u32) -> Result<Op
         return Err(Refused::NoCard);
     }
     let ones = ones_table();
+    let counted = CountedPlan { ones: &ones, plan };
     let callers = Callers {
-        read,
+        counted,
         a,
         b,
         c,
-        ab: plan_hamming(&ones, plan, a, b),
-        ac: plan_hamming(&ones, plan, a, c),
-        bc: plan_hamming(&ones, plan, b, c),
+        ab: counted.hamming(a, b),
+        ac: counted.hamming(a, c),
+        bc: counted.hamming(b, c),
     };
-    Ok(callers.lowest_median(&ones))
+    Ok(callers.lowest_median())
 }
 
 // The card that is on a shortest path between each two of three cards, or none: 12, 13, 14.

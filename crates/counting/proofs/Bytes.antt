@@ -6,8 +6,9 @@ use Prim.Native.Nat.{ℕ, zero, suc, ◌+◌, ◌*◌, ◌/◌, ◌%◌, ◌^◌
 use native.Mathlib.Nat.{zero-div, div-eq_of_lt, mod-le, mod-lt}
 use native.Mathlib.Omega.{arith}
 use lib.Bits.{bit_xor, xor_mod}
-use lib.ListN.{get_or}
+use lib.ListN.{get_or, length, take}
 use lib.Pow.{pow_pos}
+use lib.Seq.{get_or-take, length-take-le}
 use Rattle.rack.specs.Lists.{sum, tabulate}
 use Rattle.rack.specs.Bits.{bits_of, number_bit}
 use Rattle.rack.specs.Columns.{hamming}
@@ -53,17 +54,36 @@ hamming_bytes x y t k h =
     (λ i l. bit_of_byte x t i (omega arith)) (λ i l. bit_of_byte y t i (omega arith)))
 
 -- the same of bytes from two places on, and of the whole bytes and the bits that are left of k
-module _ (ps : List ℕ) (p q : ℕ) where
-  pub hamming_from : (t k : ℕ) → k ≤ 8 → hamming (8 * t + k) (bit_from ps p) (bit_from ps q)
-      ≡ hamming (8 * t) (bit_from ps p) (bit_from ps q) + hamming k (number_bit (get_or ps (p + t) 0)) (number_bit (get_or ps (q + t) 0))
+module _ (xs ys : List ℕ) (p q : ℕ) where
+  pub hamming_from : (t k : ℕ) → k ≤ 8 → hamming (8 * t + k) (bit_from xs p) (bit_from ys q)
+      ≡ hamming (8 * t) (bit_from xs p) (bit_from ys q) + hamming k (number_bit (get_or xs (p + t) 0)) (number_bit (get_or ys (q + t) 0))
   unfolding bit_from
-  hamming_from t k h = hamming_bytes (λ t. get_or ps (p + t) 0) (λ t. get_or ps (q + t) 0) t k h
+  hamming_from t k h = hamming_bytes (λ t. get_or xs (p + t) 0) (λ t. get_or ys (q + t) 0) t k h
 
-  pub hamming_parts : (k : ℕ) → hamming k (bit_from ps p) (bit_from ps q) ≡ hamming (8 * (k / 8)) (bit_from ps p) (bit_from ps q)
-      + hamming (k % 8) (number_bit (get_or ps (p + k / 8) 0)) (number_bit (get_or ps (q + k / 8) 0))
+  pub hamming_parts : (k : ℕ) → hamming k (bit_from xs p) (bit_from ys q) ≡ hamming (8 * (k / 8)) (bit_from xs p) (bit_from ys q)
+      + hamming (k % 8) (number_bit (get_or xs (p + k / 8) 0)) (number_bit (get_or ys (q + k / 8) 0))
   hamming_parts k =
       let e : k ≡ 8 * (k / 8) + k % 8 = omega arith in
-      ap (λ (j : ℕ). hamming j (bit_from ps p) (bit_from ps q)) e ∙ hamming_from (k / 8) (k % 8) (omega arith)
+      ap (λ (j : ℕ). hamming j (bit_from xs p) (bit_from ys q)) e ∙ hamming_from (k / 8) (k % 8) (omega arith)
+
+-- one byte more in a row, as the code adds it
+pub byte_more : (xs ys : List ℕ) (t sum x y more : ℕ) → sum ≡ hamming (8 * t) (bit_from xs 0) (bit_from ys 0) → x ≡ get_or xs t 0 → y ≡ get_or ys t 0
+    → more ≡ hamming 8 (number_bit x) (number_bit y) → sum + more ≡ hamming (8 * (t + 1)) (bit_from xs 0) (bit_from ys 0)
+byte_more xs ys t sum x y more e f g h =
+    let n : 8 * (t + 1) ≡ 8 * t + 8 = omega arith in
+    let here : 0 + t ≡ t = omega arith in
+    rw n (rw (e, h, f, g) (sym (rw here at (hamming_from xs ys 0 0 t 8 (omega arith)))))
+
+-- the first t bytes of two rows, cut there
+cut_row : (xs : List ℕ) (t j : ℕ) → j < 8 * t → bit_from (take t xs) 0 j ≡ bit_from xs 0 j
+unfolding bit_from
+cut_row xs t j h = ap (λ (x : ℕ). number_bit x (j % 8)) (get_or-take t xs (0 + j / 8) 0 (omega arith))
+
+pub whole_bytes : (xs ys : List ℕ) (t : ℕ) → t ≤ length xs
+    → hamming (8 * length (take t xs)) (bit_from (take t xs) 0) (bit_from (take t ys) 0) ≡ hamming (8 * t) (bit_from xs 0) (bit_from ys 0)
+whole_bytes xs ys t h =
+    ap (λ (n : ℕ). hamming (8 * n) (bit_from (take t xs) 0) (bit_from (take t ys) 0)) (length-take-le t xs h)
+    ∙ hamming_ext (8 * t) _ _ _ _ (cut_row xs t) (cut_row ys t)
 
 -- BY THE TABLE
 module _ (table : List ℕ) (c : Counts table) where

@@ -19,6 +19,6 @@ hamming_by_table table n x y c h = hamming_table table c n x y h
 pub bits_by_table : BitsByTable
 unfolding BitsByTable bit_from
 bits_by_table table bytes p q k c h =
-    hamming_parts bytes p q k
+    hamming_parts bytes bytes p q k
     ∙ ap₂ ◌+◌ (hamming_table table c (k / 8) (λ t. get_or bytes (p + t) 0) (λ t. get_or bytes (q + t) 0) (λ t l. (h (p + t), h (q + t))))
     (sym (low_entry table c (get_or bytes (p + k / 8) 0) (get_or bytes (q + k / 8) 0) (k % 8) (h (p + k / 8)) (h (q + k / 8)) (omega arith)))

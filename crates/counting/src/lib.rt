@@ -4,3 +4,4 @@
 
 pub mod ones;
 pub mod places;
+pub mod plans;

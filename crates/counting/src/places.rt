@@ -1,6 +1,6 @@
 // Differing places of bytes, of words and of addresses, counted by a lent table of the ones in each byte, which `byte_ones` alone reads; and
 // the lowest differing place, which is searched.
-ghost use Rattle.std.specs.Prelude.{◌≡◌, not, ◌+◌, ◌*◌, ◌/◌, ◌<◌, ◌≤◌, eqb, get_or, length};
+ghost use Rattle.std.specs.Prelude.{◌≡◌, not, ◌*◌, ◌/◌, ◌<◌, ◌≤◌, eqb, get_or, length};
 ghost use Rattle.rack.specs.Lists.{FoundBelow, differ, lowest};
 ghost use Rattle.rack.specs.Bits.{number_bit};
 ghost use Rattle.rack.specs.Columns.{hamming};
@@ -9,6 +9,7 @@ ghost use Rattle.rack.specs.PlanFile.{address_size, bit_from};
 ghost use Rattle.counting.specs.Ones.{ones_in};
 
 use crate::ones::Ones;
+use rack::bytes::bit_at;
 use rack::plan_file::address_size;
 
 // The places in which two bytes differ.
@@ -39,15 +40,15 @@ pub fn word_hamming(ones: &Ones, x: u64, y: u64) -> u32
     word_ones(ones, x ^ y)
 }
 
-// The places in which the bits of `count` bytes from `first` on differ from those from `second` on.
-fn bytes_hamming(ones: &Ones, bytes: &[u8], first: usize, second: usize, count: usize) -> u32
-    requires { (count ≤ 32) × (first + count ≤ length bytes.now) × (second + count ≤ length bytes.now) }
-    ensures is { result ≡ hamming (8 * count) (bit_from bytes.now first) (bit_from bytes.now second) }
-    ensures few { result ≤ 8 * count }
+// The places in which the bits of as many bytes differ.
+fn bytes_hamming(ones: &Ones, x: &[u8], y: &[u8]) -> u32
+    requires { (length x.now ≤ 32) × (length y.now ≡ length x.now) }
+    ensures is { result ≡ hamming (8 * length x.now) (bit_from x.now 0) (bit_from y.now 0) }
+    ensures few { result ≤ 8 * length x.now }
 {
-    let mut sum: u32 = 0;
-    for t in 0..count {
-        sum += byte_hamming(ones, bytes[first + t], bytes[second + t]);
+    let mut sum = 0;
+    for (p, q) in x.iter().zip(y) {
+        sum += byte_hamming(ones, *p, *q);
     }
     sum
 }
@@ -62,52 +63,45 @@ fn low_hamming(ones: &Ones, x: u8, y: u8, k: usize) -> u32
     byte_hamming(ones, x % weight, y % weight)
 }
 
-// The places in which the `k` bits from `first` on differ from those from `second` on: two addresses of `k` columns. The spare bits of the
-// last byte do not count.
-pub fn bits_hamming(ones: &Ones, bytes: &[u8], first: usize, second: usize, k: usize) -> u32
-    requires { (k ≤ most_columns) × (first + address_size k ≤ length bytes.now) × (second + address_size k ≤ length bytes.now) }
-    ensures { result ≡ hamming k (bit_from bytes.now first) (bit_from bytes.now second) }
+// The places in which the first `k` bits differ: two addresses of `k` columns. The spare bits of the last byte do not count.
+pub fn bits_hamming(ones: &Ones, x: &[u8], y: &[u8], k: usize) -> u32
+    requires { (k ≤ most_columns) × (address_size k ≤ length x.now) × (address_size k ≤ length y.now) }
+    ensures { result ≡ hamming k (bit_from x.now 0) (bit_from y.now 0) }
 {
     let whole = k / 8;
-    let sum = bytes_hamming(ones, bytes, first, second, whole);
+    let sum = bytes_hamming(ones, &x[..whole], &y[..whole]);
     if address_size(k) == whole {
         return sum;
     }
-    sum + low_hamming(ones, bytes[first + whole], bytes[second + whole], k % 8)
+    sum + low_hamming(ones, x[whole], y[whole], k % 8)
 }
 
-// Whether the bits at place `j`, from `first` and from `second` on, differ.
-fn bits_differ(bytes: &[u8], first: usize, second: usize, j: usize) -> bool
-    requires { (j < most_columns) × (first + j / 8 < length bytes.now) × (second + j / 8 < length bytes.now) }
-    ensures { result ≡ differ (bit_from bytes.now first j) (bit_from bytes.now second j) }
+// Whether the bits at place `j` differ.
+fn bits_differ(x: &[u8], y: &[u8], j: usize) -> bool
+    requires { (j / 8 < length x.now) × (j / 8 < length y.now) }
+    ensures { result ≡ differ (bit_from x.now 0 j) (bit_from y.now 0 j) }
 {
-    let x = bytes[first + j / 8] >> (j % 8);
-    let y = bytes[second + j / 8] >> (j % 8);
-    x % 2 != y % 2
+    bit_at(x, 0, j) != bit_at(y, 0, j)
 }
 
-// How many of the `count` bytes from `first` on equal those from `second` on, before the first that differs.
-fn equal_bytes(bytes: &[u8], first: usize, second: usize, count: usize) -> usize
-    requires { (first + count ≤ length bytes.now) × (second + count ≤ length bytes.now) }
-    ensures { result ≡ lowest count (λ t. not (eqb (get_or bytes.now (first + t) 0) (get_or bytes.now (second + t) 0))) }
+// How many of the first `count` bytes are equal, before the first that differs: a `for` that returns, since a length that may be the whole is no
+// search that may fail.
+fn equal_bytes(x: &[u8], y: &[u8], count: usize) -> usize
+    requires { (count ≤ length x.now) × (count ≤ length y.now) }
+    ensures { result ≡ lowest count (λ t. not (eqb (get_or x.now t 0) (get_or y.now t 0))) }
 {
     for i in 0..count {
-        if bytes[first + i] != bytes[second + i] {
+        if x[i] != y[i] {
             return i;
         }
     }
     count
 }
 
-// The lowest of the first `k` places in which the bits from `first` on differ from those from `second` on. Equal bytes are passed at once.
-pub fn lowest_differing(bytes: &[u8], first: usize, second: usize, k: usize) -> Option<usize>
-    requires { (k ≤ most_columns) × (first + address_size k ≤ length bytes.now) × (second + address_size k ≤ length bytes.now) }
-    ensures { FoundBelow k (lowest k (λ j. differ (bit_from bytes.now first j) (bit_from bytes.now second j))) result }
+// The lowest of the first `k` places in which the bits differ. Equal bytes are passed at once.
+pub fn lowest_differing(x: &[u8], y: &[u8], k: usize) -> Option<usize>
+    requires { (k ≤ most_columns) × (address_size k ≤ length x.now) × (address_size k ≤ length y.now) }
+    ensures { FoundBelow k (lowest k (λ j. differ (bit_from x.now 0 j) (bit_from y.now 0 j))) result }
 {
-    for j in 8 * equal_bytes(bytes, first, second, k / 8)..k {
-        if bits_differ(bytes, first, second, j) {
-            return Some(j);
-        }
-    }
-    None
+    (8 * equal_bytes(x, y, k / 8)..k).find(|j| bits_differ(x, y, *j))
 }

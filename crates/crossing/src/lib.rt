@@ -7,6 +7,7 @@ ghost use Rattle.forwarder.specs.Calls.{Arrived, CanTake, Frame, Full};
 ghost use Rattle.crossing.specs.Crossing.{FrameStepSays, FrameWalkSays, frame_step_of, frame_walk_of};
 
 use counting::ones::ones_table;
+use counting::plans::CountedPlan;
 use forwarder::step::{Step, frame_plan, step_between};
 use forwarder::walk::{Tally, Walked, walk_counted};
 use places::first_column;
@@ -35,7 +36,11 @@ pub fn step_frame(plan: &[u8], from: u32, goal: u32) -> Result<FrameStep, Refuse
 {
     let sized = frame_plan(plan, from, goal)?;
     let ones = ones_table();
-    let step = step_between(&ones, sized, from as usize, goal as usize);
+    let counted = CountedPlan {
+        ones: &ones,
+        plan: sized,
+    };
+    let step = step_between(counted, from as usize, goal as usize);
     let crossed = match step {
         Step::Over { far, .. } => first_column(sized, from as usize, far as usize),
         Step::Stuck | Step::Arrived => None,

@@ -2,10 +2,8 @@
 ghost use Rattle.std.specs.Prelude.{◌<◌};
 ghost use Rattle.crossing.specs.Crossing.{DifferingColumn, PlacesAre, column_of, places_of};
 
-use counting::ones::Ones;
-use counting::places::lowest_differing;
+use counting::plans::{CountedPlan, lowest_column};
 use rack::views::Plan;
-use reader::places::plan_hamming;
 
 // How many columns differ, and the lowest of them.
 #[derive(Clone, Copy, Debug, PartialEq, Eq)]
@@ -19,19 +17,17 @@ pub fn first_column(plan: Plan<'_>, a: usize, b: usize) -> Option<u32>
     requires { (a < plan.cards) × (b < plan.cards) }
     ensures { DifferingColumn plan.entry.bytes.now a b (column_of result) }
 {
-    let first = plan.address_start(a);
-    let second = plan.address_start(b);
-    let j = lowest_differing(plan.bytes, first, second, plan.columns)?;
+    let j = lowest_column(plan, a, b)?;
     Some(j as u32)
 }
 
 // The places in which the addresses of two cards differ.
-pub fn plan_places(ones: &Ones, plan: Plan<'_>, a: usize, b: usize) -> Places
-    requires { (a < plan.cards) × (b < plan.cards) }
-    ensures { PlacesAre plan.entry.bytes.now a b (places_of result) }
+pub fn plan_places(counted: CountedPlan<'_>, a: usize, b: usize) -> Places
+    requires { (a < counted.plan.cards) × (b < counted.plan.cards) }
+    ensures { PlacesAre counted.entry.plan.bytes.now a b (places_of result) }
 {
     Places {
-        count: plan_hamming(ones, plan, a, b),
-        first: first_column(plan, a, b),
+        count: counted.hamming(a, b),
+        first: first_column(counted.plan, a, b),
     }
 }

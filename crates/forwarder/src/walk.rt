@@ -8,10 +8,10 @@ ghost use Rattle.forwarder.specs.Calls.{Arrived, CanTake, Frame, Full, WalkSays,
 ghost use Rattle.forwarder.specs.Parts.{Counted, RouteIs};
 
 use crate::step::{Step, frame_plan, step_between};
-use counting::ones::{Ones, ones_table};
+use counting::ones::ones_table;
+use counting::plans::CountedPlan;
 use rack::limits::MOST_TRAFFIC;
 use rack::refused::Refused;
-use rack::views::Plan;
 
 // The length of the lent numbers, one for each card.
 pub const LENT_MET: usize = 256;
@@ -39,17 +39,17 @@ struct Route {
 }
 
 // Walks from card `a` to card `b`, and writes the cards met, the first one first, into numbers that are zero at entry.
-fn walk_between(ones: &Ones, plan: Plan<'_>, a: usize, b: usize, met: &mut [u16; LENT_MET]) -> Route
-    requires { (a < plan.cards) × (b < plan.cards) × (met.old ≡ replicate lent_met 0) }
-    ensures { RouteIs (walk plan.entry.bytes.now a b) result met.new }
+fn walk_between(counted: CountedPlan<'_>, a: usize, b: usize, met: &mut [u16; LENT_MET]) -> Route
+    requires { (a < counted.plan.cards) × (b < counted.plan.cards) × (met.old ≡ replicate lent_met 0) }
+    ensures { RouteIs (walk counted.entry.plan.bytes.now a b) result met.new }
 {
     met[0] = a as u16;
     let mut taken = 0;
-    let mut next = step_between(ones, plan, a, b);
+    let mut next = step_between(counted, a, b);
     while let Step::Over { far, .. } = next {
         taken += 1;
         met[taken] = far as u16;
-        next = step_between(ones, plan, far as usize, b);
+        next = step_between(counted, far as usize, b);
     }
     Route {
         arrived: next == Step::Arrived,
@@ -99,8 +99,12 @@ pub fn walk_counted(
     };
     let sized = frame_plan(plan, from, goal)?;
     let ones = ones_table();
+    let with_table = CountedPlan {
+        ones: &ones,
+        plan: sized,
+    };
     let mut cards = [0; LENT_MET];
-    let route = walk_between(&ones, sized, from as usize, goal as usize, &mut cards);
+    let route = walk_between(with_table, from as usize, goal as usize, &mut cards);
     let walked = counted(tally, route.arrived, route.hops)?;
     *met = cards;
     Ok(walked)

@@ -1,21 +1,17 @@
 -- Two rows that differ in one place: the lowest in which they differ is that place. Assumes nothing.
-use mathlib.Core.Path.{◌≡◌, refl, sym, ap₂, ◌∙◌}
+use mathlib.Core.Path.{◌≡◌, refl, sym, ◌∙◌}
 use mathlib.Core.Bool.{Bool}
 use mathlib.Core.Logic.{◌≢◌}
-use mathlib.Core.List.{List}
 use Rattle.std.specs.Prelude.{Option, None, Some}
 use Prim.Native.Nat.{ℕ, ◌≤◌, ◌<◌}
 use native.Mathlib.Omega.{arith}
 use borrow.Author.Tests.{eq-eqb, ne_eqb}
 use Rattle.rack.specs.Lists.{differ, lowest, FoundBelow}
 use Rattle.rack.specs.Columns.{hamming}
-use Rattle.rack.specs.PlanFile.{bit_from, plan_bit, address_start}
-use Rattle.rack.proofs.Tables.{lowest_is, lowest_ext}
-use Rattle.rack.proofs.Hamming.{hamming_ext}
+use Rattle.rack.proofs.Tables.{lowest_is}
 use Rattle.rack.proofs.Crossing.{Crossing, one_crossing}
 use Rattle.plan_tests.specs.Tests.{lowest_apart}
 use Rattle.plan_tests.specs.Crossed.{only_apart}
-use Rattle.plan_tests.proofs.Places.{address_bit}
 
 module _ (k : ℕ) (r : ℕ → ℕ → Bool) (p q : ℕ) where
   -- the place that is crossed is the lowest, also among more places than k
@@ -37,20 +33,14 @@ module _ (k : ℕ) (r : ℕ → ℕ → Bool) (p q : ℕ) where
   unfolding only_apart
   only_none h = rw (ne_eqb (hamming k (r p) (r q)) 1 h) refl
 
--- IN A PLAN'S BYTES, from where the addresses of two cards begin
-module _ (ps : List ℕ) (k p q a b : ℕ) (at_p : a ≡ address_start ps p) (at_q : b ≡ address_start ps q) where
-  pub same_places : hamming k (bit_from ps a) (bit_from ps b) ≡ hamming k (plan_bit ps p) (plan_bit ps q)
-  same_places = hamming_ext k _ _ _ _ (λ j h. address_bit ps p a j at_p) (λ j h. address_bit ps q b j at_q)
-
-  lowest_only : hamming k (bit_from ps a) (bit_from ps b) ≡ 1
-      → (lowest k (λ j. differ (bit_from ps a j) (bit_from ps b j)) ≡ only_apart k (plan_bit ps p) (plan_bit ps q)) × (only_apart k (plan_bit ps p) (plan_bit ps q) < k)
+  -- as a search gives it
+  lowest_only : hamming k (r p) (r q) ≡ 1
+      → (lowest k (λ j. differ (r p j) (r q j)) ≡ only_apart k (r p) (r q)) × (only_apart k (r p) (r q) < k)
   unfolding lowest_apart
   lowest_only h =
-      let one = only_one k (plan_bit ps) p q (sym same_places ∙ h) in
-      let e = lowest_ext k _ _ (λ j g. ap₂ differ (address_bit ps p a j at_p) (address_bit ps q b j at_q)) ∙ sym one.0 in
-      (e, omega (arith, one.0, one.1))
+      let one = only_one h in
+      (sym one.0, omega (arith, one.0, one.1))
 
-  pub found_only : hamming k (bit_from ps a) (bit_from ps b) ≡ 1 → (r : Option ℕ)
-      → FoundBelow k (lowest k (λ j. differ (bit_from ps a j) (bit_from ps b j))) r → FoundBelow k (only_apart k (plan_bit ps p) (plan_bit ps q)) r
+  pub found_only : hamming k (r p) (r q) ≡ 1 → (o : Option ℕ) → FoundBelow k (lowest k (λ j. differ (r p j) (r q j))) o → FoundBelow k (only_apart k (r p) (r q)) o
   found_only h None e = absurd (omega (arith, e, (lowest_only h).0, (lowest_only h).1))
   found_only h (Some i) f = (f.0 ∙ (lowest_only h).0, f.1)

@@ -11,8 +11,7 @@ fn spare_card(plan: Plan<'_>, c: usize) -> bool
     ensures { result ≡ spare_card plan.entry.columns (plan_bit plan.entry.bytes.now) c }
 {
     let whole = plan.columns / 8;
-    plan.address_size() == whole
-        || plan.bytes[plan.address_start(c) + whole] < 1u8 << (plan.columns % 8)
+    plan.address_size() == whole || plan.address(c)[whole] < 1u8 << (plan.columns % 8)
 }
 
 // The same of all cards.
@@ -27,8 +26,5 @@ pub fn first_zero(plan: Plan<'_>) -> bool
     requires { spare_zero plan.cards plan.columns (plan_bit plan.bytes.now) ≡ true }
     ensures { result ≡ first_zero plan.entry.columns (plan_bit plan.entry.bytes.now) }
 {
-    let start = plan.address_start(0);
-    plan.bytes[start..start + plan.address_size()]
-        .iter()
-        .all(|byte| *byte == 0)
+    plan.address(0).iter().all(|byte| *byte == 0)
 }

@@ -3,59 +3,35 @@
 use mathlib.Core.Path.{◌≡◌, refl, sym, ap, ap₂, ◌∙◌}
 use mathlib.Core.Bool.{Bool}
 use mathlib.Core.List.{List}
-use Prim.Native.Nat.{ℕ, zero, suc, ◌+◌, ◌*◌, ◌-◌, ◌/◌, ◌%◌, ◌^◌, ◌≤◌, ◌<◌}
+use Prim.Native.Nat.{ℕ, ◌+◌, ◌*◌, ◌-◌, ◌≤◌, ◌<◌}
 use native.Mathlib.Nat.{mul-le-mul}
 use native.Mathlib.Omega.{arith}
-use lib.Dec.{eqb}
-use lib.ListN.{length, get_or}
 use Rattle.rack.specs.Lists.{one, count, range}
-use Rattle.rack.specs.Bits.{number_bit}
 use Rattle.rack.specs.Hops.{hops}
 use Rattle.rack.specs.Limits.{most_cards}
-use Rattle.rack.specs.PlanFile.{bit_from, plan_bit, plan_columns, plan_hamming, plan_wiring, address_size, addresses_start, address_start, Sized}
+use Rattle.rack.specs.PlanFile.{plan_bit, plan_columns, plan_hamming, plan_wiring, Sized}
 use Rattle.rack.proofs.Lists.{count_le_length, count_snoc}
 use Rattle.rack.proofs.Tables.{length_tabulate, tabulate_snoc}
 use Rattle.rack.proofs.Sums.{sum_none, sum_last, sum_le}
 use Rattle.rack.proofs.WiringFile.{wiring_at_cards}
 use Rattle.reader.specs.Promises.{Measured}
-use Rattle.reader.proofs.Addresses.{address_counted}
 use Rattle.reader.proofs.Measured.{plan_embedding}
 use Rattle.totals.specs.Totals.{bit_products, hops_to, ones_of, total_hops}
 use Rattle.totals.proofs.Products.{embedding_products}
 
 -- ONES of a column
-one_digit : (x : ℕ) → x < 2 → one (eqb x 1) ≡ x
-one_digit zero h = refl
-one_digit (suc zero) h = refl
-one_digit (suc (suc x)) h = absurd (omega arith)
-
-one_number_bit : (x i : ℕ) → one (number_bit x i) ≡ x / 2 ^ i % 2
-unfolding number_bit
-one_number_bit x i = one_digit (x / 2 ^ i % 2) (omega arith)
-
 module _ (bits : ℕ → ℕ → Bool) (j : ℕ) where
   pub ones_none : ones_of bits 0 j ≡ 0
   unfolding ones_of
   ones_none = refl
 
-  ones_last : (n : ℕ) → ones_of bits (n + 1) j ≡ ones_of bits n j + one (bits n j)
+  pub ones_last : (n : ℕ) → ones_of bits (n + 1) j ≡ ones_of bits n j + one (bits n j)
   unfolding ones_of
   ones_last n = ap (count (λ c. bits c j)) (tabulate_snoc n (λ c. c)) ∙ count_snoc (λ c. bits c j) (range n) n
 
   pub ones_few : (n ones : ℕ) → ones ≡ ones_of bits n j → ones ≤ n
   unfolding ones_of
   ones_few n ones e = omega (arith, e, count_le_length (λ c. bits c j) (range n), length_tabulate n (λ c. c))
-
--- one card more: the byte of column j in its address, which the code reads, is inside the plan, and its bit is added
-module _ (ps : List ℕ) {n m k : ℕ} (z : Sized ps n m k) (j size start : ℕ) (column : j < k) (sized : size ≡ address_size k)
-    (starts : start ≡ addresses_start m + 0 * address_size k + j / 8) where
-  pub ones_more : (c ones : ℕ) → c < n → ones ≡ ones_of (plan_bit ps) c j
-      → (start + c * size < length ps) × (ones + get_or ps (start + c * size) 0 / 2 ^ (j % 8) % 2 ≡ ones_of (plan_bit ps) (c + 1) j)
-  unfolding bit_from plan_bit
-  ones_more c ones h e =
-      let e₀ = address_counted ps z c size (addresses_start m + c * size) h sized refl in
-      let at : start + c * size ≡ address_start ps c + j / 8 = omega arith in
-      (omega arith, rw at (omega (arith, e, ones_last (plan_bit ps) j c, one_number_bit (get_or ps (address_start ps c + j / 8) 0) (j % 8))))
 
 -- PRODUCTS of ones and zeros
 module _ (bits : ℕ → ℕ → Bool) (n : ℕ) where

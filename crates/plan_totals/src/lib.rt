@@ -10,9 +10,9 @@ ghost use Rattle.totals.specs.Totals.{bit_products, hops_to, ones_of, total_hops
 ghost use Rattle.plan_totals.specs.Summed.{ReadWithTotalSays, SummedSays, summed_of};
 
 use counting::ones::ones_table;
+use counting::plans::CountedPlan;
 use rack::refused::Refused;
 use rack::views::Plan;
-use reader::places::plan_hamming;
 use reader::read::read_plan;
 use reader::views::ReadPlan;
 
@@ -28,11 +28,9 @@ fn column_ones(plan: Plan<'_>, j: usize) -> u32
     requires { j < plan.columns }
     ensures { result ≡ ones_of (plan_bit plan.entry.bytes.now) plan.entry.cards j }
 {
-    let size = plan.address_size();
-    let start = plan.address_start(0) + j / 8;
     let mut ones = 0;
     for c in 0..plan.cards {
-        ones += u32::from((plan.bytes[start + c * size] >> (j % 8)) % 2);
+        ones += u32::from(plan.bit(c, j));
     }
     ones
 }
@@ -63,9 +61,10 @@ pub fn hops_from(read: ReadPlan<'_>, card: usize) -> u32
 {
     let plan = read.plan;
     let ones = ones_table();
+    let counted = CountedPlan { ones: &ones, plan };
     let mut sum = 0;
     for c in 0..plan.cards {
-        sum += plan_hamming(&ones, plan, card, c);
+        sum += counted.hamming(card, c);
     }
     sum
 }

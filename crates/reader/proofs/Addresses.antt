@@ -1,13 +1,12 @@
--- Addresses in a plan's bytes: where they stand, and their differing places. Assumes nothing.
+-- Addresses in a plan's bytes: where they stand, and at most how many places differ. Assumes nothing.
 use mathlib.Core.Path.{◌≡◌, refl, sym, ap, ◌∙◌}
 use mathlib.Core.List.{List}
 use Prim.Native.Nat.{ℕ, ◌+◌, ◌*◌, ◌/◌, ◌≤◌, ◌<◌}
 use native.Mathlib.Nat.{mul-le-mul_right}
 use native.Mathlib.Omega.{arith}
 use lib.ListN.{length}
-use Rattle.rack.specs.Columns.{hamming}
 use Rattle.rack.proofs.Hamming.{hamming_le}
-use Rattle.rack.specs.PlanFile.{plan_columns, bit_from, plan_bit, plan_hamming, address_size, addresses_start, address_start, Sized}
+use Rattle.rack.specs.PlanFile.{plan_columns, plan_bit, plan_hamming, address_size, addresses_start, address_start, Sized}
 use Rattle.rack.proofs.PlanFile.{address_size_is, start_counted}
 
 module _ (ps : List ℕ) where
@@ -26,9 +25,3 @@ module _ (ps : List ℕ) where
         omega (arith, z.long),
         e ∙ address_size_is k,
       )
-
-  -- the differing places of two addresses are those of the bits from where they begin
-  pub plan_hamming_from : (a b k p q : ℕ) → k ≡ plan_columns ps → p ≡ address_start ps a → q ≡ address_start ps b
-      → hamming k (bit_from ps p) (bit_from ps q) ≡ plan_hamming ps a b
-  unfolding plan_hamming plan_bit
-  plan_hamming_from a b k p q columns at_a at_b = rw (columns, at_a, at_b) refl

@@ -2,6 +2,5 @@
 #![tactic(auto)]
 
 pub mod layout;
-pub mod places;
 pub mod read;
 pub mod views;

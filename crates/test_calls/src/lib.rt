@@ -19,6 +19,7 @@ use answers::{
 };
 use conference::conference_card;
 use counting::ones::ones_table;
+use counting::plans::CountedPlan;
 use crossing::places::plan_places;
 use crossing::{step_frame, walk_frame};
 use forwarder::step::frame_plan;
@@ -73,7 +74,11 @@ pub fn test_plan_places(plan: &[u8], a: u32, b: u32, answer: &mut [u32]) -> u32
     match frame_plan(plan, a, b) {
         Ok(sized) => {
             let ones = ones_table();
-            put_places(plan_places(&ones, sized, a as usize, b as usize), answer);
+            let counted = CountedPlan {
+                ones: &ones,
+                plan: sized,
+            };
+            put_places(plan_places(counted, a as usize, b as usize), answer);
             0
         }
         Err(refused) => put_refused(refused, answer),

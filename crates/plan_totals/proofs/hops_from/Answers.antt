@@ -5,14 +5,14 @@ use Rattle.rack.specs.PlanFile.{plan_wiring}
 use Rattle.totals.specs.Totals.{hops_to}
 use Rattle.plan_totals.proofs.Summing.{hops_none, hops_more, hops_few}
 use Rattle.plan_totals.proofs.hops_from.Goals as goal
-use Rattle.plan_totals.proofs.hops_from.Goals.{After-plan_hamming-sum}
+use Rattle.plan_totals.proofs.hops_from.Goals.{After-hamming-sum}
 
 -- one card more
-module _ (c : After-plan_hamming-sum) where
-  added : c.loop-c.sum + c.plan_hamming-sum.result ≡ hops_to (plan_wiring c.args.read.plan.bytes.now) (c.loop-c.c + 1) c.args.card
+module _ (c : After-hamming-sum) where
+  added : c.loop-c.sum + c.hamming-sum.result ≡ hops_to (plan_wiring c.args.read.plan.bytes.now) (c.loop-c.c + 1) c.args.card
   added =
-      hops_more _ c.args.read.plan.sized c.args.read.measured c.args.card c.requires c.loop-c.c c.loop-c.sum c.plan_hamming-sum.result
-      (omega arith) c.loop-c.invariant c.plan_hamming-sum.ensures
+      hops_more _ c.args.read.plan.sized c.args.read.measured c.args.card c.requires c.loop-c.c c.loop-c.sum c.hamming-sum.result
+      (omega arith) c.loop-c.invariant c.hamming-sum.ensures
 
   few : hops_to (plan_wiring c.args.read.plan.bytes.now) (c.loop-c.c + 1) c.args.card ≤ (c.loop-c.c + 1) * most_cards
   few = hops_few _ c.args.read.plan.sized c.args.read.measured c.args.card c.requires (c.loop-c.c + 1) (omega arith)

@@ -15,27 +15,27 @@ loop-i-init c = ((λ j h. absurd (omega arith)), no_marks _ _ _)
 pub is_nearer-requires : goal.is_nearer-requires
 is_nearer-requires c =
     let z = c.args in
-    (far_below z.plan.bytes.now z.plan.sized z.a z.b c.loop-i.i _ (sym c.in-Some.ensures), c.requires.1, c.loop-i.invariant.1)
+    (far_below z.counted.plan.bytes.now z.counted.plan.sized z.a z.b c.loop-i.i _ (sym c.in-Some.ensures), c.requires.1, c.loop-i.invariant.1)
 
 pub overflow_cast-result-in-loop-i : goal.overflow_cast-result-in-loop-i
 overflow_cast-result-in-loop-i c =
     let z = c.args in
-    omega (arith, z.plan.sized.few, far_below z.plan.bytes.now z.plan.sized z.a z.b c.loop-i.i _ (sym c.in-Some.ensures))
+    omega (arith, z.counted.plan.sized.few, far_below z.counted.plan.bytes.now z.counted.plan.sized z.a z.b c.loop-i.i _ (sym c.in-Some.ensures))
 
 pub returns-in-loop-i : goal.returns-in-loop-i
 returns-in-loop-i c =
     let z = c.args in
-    step_found z.plan.bytes.now z.plan.sized z.a z.b c.loop-i.i c.loop-i.invariant.0 _ _ (sym c.in-Some.ensures)
-    c.plan_hamming-left.ensures (λ e. omega arith) c.loop-i-test.true (sym c.if-is_nearer.ensures.is)
+    step_found z.counted.plan.bytes.now z.counted.plan.sized z.a z.b c.loop-i.i c.loop-i.invariant.0 _ _ (sym c.in-Some.ensures)
+    c.hamming-left.ensures (λ e. omega arith) c.loop-i-test.true (sym c.if-is_nearer.ensures.is)
 
 pub loop-i-preserved : goal.loop-i-preserved
 loop-i-preserved c =
     let z = c.args in
     let passed = c.loop-i.invariant in
     elim c.in_default.branch [
-      | in_default-via-in-None-1 w ↦ (passed_none z.plan.bytes.now z.plan.sized z.a z.b c.loop-i.i passed.0 (search rules), rw w.marks-is passed.1)
+      | in_default-via-in-None-1 w ↦ (passed_none z.counted.plan.bytes.now z.counted.plan.sized z.a z.b c.loop-i.i passed.0 (search rules), rw w.marks-is passed.1)
       | in_default-via-in-Some+else-is_nearer w ↦ (
-        passed_far z.plan.bytes.now z.plan.sized z.a z.b c.loop-i.i passed.0 _ _ (sym w.in-Some.ensures) c.plan_hamming-left.ensures (sym w.if-is_nearer.ensures.is),
+        passed_far z.counted.plan.bytes.now z.counted.plan.sized z.a z.b c.loop-i.i passed.0 _ _ (sym w.in-Some.ensures) c.hamming-left.ensures (sym w.if-is_nearer.ensures.is),
         rw w.marks-is w.if-is_nearer.ensures.holds,
       )
     ]
@@ -43,4 +43,4 @@ loop-i-preserved c =
 pub returns : goal.returns
 returns c =
     let z = c.args in
-    step_none z.plan.bytes.now z.plan.sized z.a z.b (λ e. omega arith) (λ j h. c.loop-i.invariant.0 j (omega arith))
+    step_none z.counted.plan.bytes.now z.counted.plan.sized z.a z.b (λ e. omega arith) (λ j h. c.loop-i.invariant.0 j (omega arith))

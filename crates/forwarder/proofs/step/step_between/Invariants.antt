@@ -4,4 +4,4 @@ use Rattle.forwarder.proofs.Searching.{NoneBefore}
 use Rattle.forwarder.proofs.step.step_between.Given as goal
 
 abbrev pub invariant-loop-i : goal.invariant-loop-i
-invariant-loop-i l = NoneBefore l.plan.bytes.now l.a l.b l.i × NoNearer l.plan.bytes.now l.b l.left l.marks
+invariant-loop-i l = NoneBefore l.counted.plan.bytes.now l.a l.b l.i × NoNearer l.counted.plan.bytes.now l.b l.left l.marks

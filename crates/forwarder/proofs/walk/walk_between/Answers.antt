@@ -11,15 +11,15 @@ use Rattle.forwarder.proofs.walk.walk_between.Goals.{In-Over}
 
 module _ (c : In-Over) where
   abbrev Here : Type 0
-  Here = OnTheWay c.args.plan.bytes.now c.args.a c.args.b c.loop-next.met c.loop-next.taken (step_of 2 c.in-Over.link c.in-Over.far)
+  Here = OnTheWay c.args.counted.plan.bytes.now c.args.a c.args.b c.loop-next.met c.loop-next.taken (step_of 2 c.in-Over.link c.in-Over.far)
 
   here : Here
   here = rw c.in-Over.is at c.loop-next.invariant
 
   -- a step over a link leaves room for its card
-  known : (c.loop-next.taken < 255) × (c.in-Over.far < c.args.plan.cards) × (c.args.plan.cards < 257)
+  known : (c.loop-next.taken < 255) × (c.in-Over.far < c.args.counted.plan.cards) × (c.args.counted.plan.cards < 257)
   known =
-      let p = c.args.plan in
+      let p = c.args.counted.plan in
       let room = room_left p.bytes.now c.args.a c.args.b _ _ _ here refl in
       let card = far_is_card p.bytes.now c.args.a c.args.b _ _ _ here refl in
       (omega (arith, p.sized.columns, p.sized.few_columns), omega (arith, p.sized.cards), omega (arith, p.sized.few))
@@ -38,12 +38,12 @@ step_between-next-requires-in-Over c = ((known (goal.at.step_between-next-requir
 
 pub loop-next-preserved : goal.loop-next-preserved
 loop-next-preserved c =
-    let p = c.args.plan in
+    let p = c.args.counted.plan in
     walk_steps p.bytes.now c.args.a c.args.b _ _ _ (here (goal.at.loop-next-preserved c).In-Over) refl
     (omega (arith, p.sized.columns, p.sized.few_columns)) _ c.step_between-next-in-Over.ensures
 
 pub returns : goal.returns
 returns c =
-    let p = c.args.plan in
+    let p = c.args.counted.plan in
     let ended = ended_step c.loop-next.next c.eq.result (search rules) c.in_default.not-Over in
     walk_stops p.bytes.now c.args.a c.args.b _ _ _ c.loop-next.invariant c.eq.result ended.0 ended.1 (omega (arith, p.sized.columns, p.sized.few_columns))

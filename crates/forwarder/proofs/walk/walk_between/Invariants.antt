@@ -6,7 +6,7 @@ use Rattle.forwarder.proofs.Routes.{OnTheWay}
 use Rattle.forwarder.proofs.walk.walk_between.Given as goal
 
 abbrev pub invariant-loop-next : goal.invariant-loop-next
-invariant-loop-next l = OnTheWay l.plan.bytes.now l.a l.b l.met l.taken (step_seen l.next)
+invariant-loop-next l = OnTheWay l.counted.plan.bytes.now l.a l.b l.met l.taken (step_seen l.next)
 
 abbrev pub decreases-loop-next : goal.decreases-loop-next
 decreases-loop-next l = 256 - l.taken

@@ -1,30 +1,28 @@
--- Both addresses begin where the code counts; where they differ in one place, it is the lowest. Assumes nothing.
-use mathlib.Core.Path.{◌≡◌, sym, ◌∙◌}
-use Rattle.rack.specs.PlanFile.{address_start, plan_bit}
-use Rattle.plan_tests.proofs.Places.{address_counted}
-use Rattle.plan_tests.proofs.OneColumn.{same_places, found_only, only_none}
+-- Where the addresses differ in one place, it is the lowest. Assumes nothing.
+use mathlib.Core.Path.{◌≡◌, sym, ap, ◌∙◌}
+use Prim.Native.Nat.{ℕ}
+use Rattle.rack.specs.Columns.{hamming}
+use Rattle.rack.specs.PlanFile.{plan_bit, plan_hamming}
+use Rattle.plan_tests.proofs.OneColumn.{found_only, only_none}
 use Rattle.plan_tests.proofs.order.only_column.Goals as goal
-use Rattle.plan_tests.proofs.order.only_column.Goals.{After-address_start-second}
+use Rattle.plan_tests.proofs.order.only_column.Goals.{After-hamming}
 
--- where they begin
-starts : (c : After-address_start-second) → let ps = c.args.plan.bytes.now in
-    (c.address_start-first.result ≡ address_start ps c.args.p) × (c.address_start-second.result ≡ address_start ps c.args.q)
-starts c =
-    let z = c.args.plan in (
-      (address_counted z.bytes.now z.cards z.links z.columns z.sized c.args.p _ c.requires.0 c.address_start-first.ensures.is).0,
-      (address_counted z.bytes.now z.cards z.links z.columns z.sized c.args.q _ c.requires.1 c.address_start-second.ensures.is).0,
-    )
+-- as many places as are counted
+counted : (c : After-hamming) → let p = c.args.counted.plan in
+    hamming p.columns (plan_bit p.bytes.now c.args.p) (plan_bit p.bytes.now c.args.q) ≡ c.hamming.result
+unfolding plan_hamming
+counted c =
+    let p = c.args.counted.plan in
+    ap (λ (k : ℕ). hamming k (plan_bit p.bytes.now c.args.p) (plan_bit p.bytes.now c.args.q)) p.sized.columns ∙ sym c.hamming.ensures
 
-pub returns-then-bits_hamming-ne1 : goal.returns-then-bits_hamming-ne1
-returns-then-bits_hamming-ne1 c =
+pub returns-then-hamming-ne1 : goal.returns-then-hamming-ne1
+returns-then-hamming-ne1 c =
     let a = c.args in
-    let ps = a.plan.bytes.now in
-    let s = starts (goal.at.returns-then-bits_hamming-ne1 c).After-address_start-second in
-    only_none a.plan.columns (plan_bit ps) a.p a.q (λ e.
-    c.if-bits_hamming-ne1.true (c.bits_hamming.ensures ∙ same_places ps a.plan.columns a.p a.q _ _ s.0 s.1 ∙ e))
+    only_none a.counted.plan.columns (plan_bit a.counted.plan.bytes.now) a.p a.q (λ e.
+    c.if-hamming-ne1.true (sym (counted (goal.at.returns-then-hamming-ne1 c).After-hamming) ∙ e))
 
 pub returns : goal.returns
 returns c =
     let a = c.args in
-    let s = starts (goal.at.returns c).After-address_start-second in
-    found_only a.plan.bytes.now a.plan.columns a.p a.q _ _ s.0 s.1 (sym c.bits_hamming.ensures ∙ c.if-bits_hamming-ne1.false) _ c.lowest_differing.ensures
+    found_only a.counted.plan.columns (plan_bit a.counted.plan.bytes.now) a.p a.q
+    (counted (goal.at.returns c).After-hamming ∙ c.if-hamming-ne1.false) _ c.lowest_column.ensures
