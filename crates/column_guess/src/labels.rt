@@ -57,7 +57,7 @@ impl<'a> Labels<'a> {
     // Puts a label in place of another everywhere.
     fn rename(&mut self, old: u8, new: u8) {
         for c in 0..self.file.cards {
-            sets::rename(&mut self.sets, c, old, new);
+            sets::rename(&mut self.sets, c as u8, old, new);
         }
         for label in &mut self.of_links[..self.file.links] {
             *label = label.map(|x| if x == old { new } else { x });
