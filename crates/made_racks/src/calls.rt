@@ -30,7 +30,10 @@ pub fn written(rt: &impl Print, file: &[u8], output: &mut [u8]) -> io::Result<Op
 // Reads a plan.
 pub fn read(rt: &impl Print, plan: &[u8]) -> io::Result<()> {
     match read_plan(plan) {
-        Ok(p) => print!(rt; "; read 0: {} {} {}", p.cards, p.links, p.columns),
+        Ok(r) => print!(rt;
+            "; read 0: {} {} {}",
+            r.plan.cards, r.plan.links, r.plan.columns
+        ),
         Err(refused) => print!(rt; "; read {}", refused.number()),
     }
 }
