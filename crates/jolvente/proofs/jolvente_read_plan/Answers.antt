@@ -12,7 +12,7 @@ returns-in_default c = with_promise _ _ _ _ (no_room c.args.plan.now c.args.«re
 
 pub returns-in-Ok : goal.returns-in-Ok
 returns-in-Ok c =
-    with_promise _ _ _ _ (sizes_said _ _ (sizes_of (Ok c.in-Ok.sized)) c.in-Some.ensures.cases.long c.in-Ok.ensures.says refl _ c.put_record.ensures)
+    with_promise _ _ _ _ (sizes_said _ _ (sizes_of (Ok c.in-Ok.read.plan)) c.in-Some.ensures.cases.long c.in-Ok.ensures.says refl _ c.put_record.ensures)
 
 pub returns-in-Err : goal.returns-in-Err
 returns-in-Err c =
