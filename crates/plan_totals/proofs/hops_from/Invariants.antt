@@ -5,4 +5,4 @@ use Rattle.totals.specs.Totals.{hops_to}
 use Rattle.plan_totals.proofs.hops_from.Given as goal
 
 abbrev pub invariant-loop-c : goal.invariant-loop-c
-invariant-loop-c l = l.sum ≡ hops_to (plan_wiring l.read.plan.bytes.now) l.c l.card
+invariant-loop-c l = l.sum ≡ hops_to (plan_wiring l.read.plan.bytes.now) l.c l.fn.card
