@@ -11,7 +11,7 @@ use Rattle.rack.specs.Lists.{tabulate, blocks}
 use Rattle.rack.proofs.Tables.{length_tabulate, blocks_add, blocks_snoc}
 use Rattle.text.specs.Decimals.{decimal}
 use Rattle.listing_text.specs.Listing.{card_word, space, dash, line_end, column_digit, address_text, card_line}
-use Rattle.text.proofs.Putting.{room_first}
+use Rattle.rack.proofs.Putting.{room_first}
 
 -- AN ADDRESS: a dash, or its columns
 pub address_none : (k : ℕ) (row : ℕ → Bool) → k ≡ 0 → address_text k row ≡ dash

@@ -27,8 +27,8 @@ use Rattle.rack.proofs.Appending.{written_none}
 use Rattle.planner.proofs.PlanAnswer.{left_untouched, left_filled}
 use Rattle.listing_text.specs.Listing.{listing, column_digit, address_text, card_line, rack_lines, rack_text, refused_text}
 use Rattle.listing_text.specs.Listing.{lent_text, listing_refusal, ListingSays}
-use Rattle.text.specs.Putting.{Grows}
-use Rattle.text.specs.declared.put.Text.{Text}
+use Rattle.rack.specs.Putting.{Grows}
+use Rattle.rack.specs.declared.output.Output.{Output}
 use Rattle.listing_text.specs.Planned.{Planned}
 use Rattle.listing_text.proofs.Fits.{accepted_sizes, listing_fits}
 

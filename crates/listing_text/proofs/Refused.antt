@@ -12,7 +12,7 @@ use Rattle.rack.specs.declared.refused.Refused.{Refused}
 use Rattle.rack.specs.declared.refused.Refused.TheVariants.{Lent, NoSizes, Cards, Links, Length, NoEnd, OneCard, Parallel, Unreached, OddLoop, NoAddresses, Layout, Content, NoCard, Full, Largest, NotLast, NoCaller, NoFrame}
 use Rattle.text.specs.Decimals.{decimal}
 use Rattle.listing_text.specs.Listing.{refused_word, at_link, at_card, line_end, names_link, place_text, refused_text}
-use Rattle.text.proofs.Putting.{room_first}
+use Rattle.rack.proofs.Putting.{room_first}
 
 -- THE PLACE, a link, a card or none, from the test of its number
 pub place_link : (number at : ℕ) (t : Bool) → t ≡ names_link number → t ≡ true → place_text (refusal number at) ≡ at_link ++ decimal at

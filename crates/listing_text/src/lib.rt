@@ -4,7 +4,7 @@
 ghost use Rattle.std.specs.Prelude.{◌≡◌, ◌+◌, ◌≤◌, length};
 ghost use Rattle.rack.specs.Buffers.{Written};
 ghost use Rattle.planner.specs.Answer.{answer_of};
-ghost use Rattle.text.specs.Putting.{Grows};
+ghost use Rattle.rack.specs.Putting.{Grows};
 ghost use Rattle.listing_text.specs.Listing.{listing, ListingSays};
 ghost use Rattle.listing_text.specs.Planned.{Planned};
 

@@ -5,14 +5,14 @@ ghost use Rattle.rack.specs.Lists.{tabulate, blocks};
 ghost use Rattle.rack.specs.Refused.{refusal_of};
 ghost use Rattle.rack.specs.Words.{word_bit};
 ghost use Rattle.text.specs.Decimals.{decimal};
-ghost use Rattle.text.specs.Putting.{Grows};
+ghost use Rattle.rack.specs.Putting.{Grows};
 ghost use Rattle.listing_text.specs.Listing.{number_line, size_lines, column_digit, address_text, card_line, rack_lines};
 ghost use Rattle.listing_text.specs.Listing.{place_text, refused_text, SizesFit};
 
 use rack::limits::LENT_WORDS;
 use rack::refused::Refused;
 use rack::words::word_bit;
-use text::put::{Text, digit};
+use text::put::{Text, digit, put_decimal};
 
 // The sizes of a planned rack, and its addresses in words.
 #[derive(Clone, Copy)]
@@ -30,7 +30,7 @@ fn put_word_number(text: &mut Text<'_>, word: &[u8], v: u32)
     ensures { Grows text.old text.new (word.now ++ decimal v) }
 {
     text.put_bytes(word);
-    text.put_decimal(v);
+    put_decimal(text, v);
 }
 
 // Appends a line of a word and a number.

@@ -21,6 +21,7 @@ pub mod WiringFile
 pub mod PlanFile
 pub mod Zeros
 pub mod Appending
+pub mod Putting
 pub mod Numbers
 pub mod Accepted
 pub mod Parity

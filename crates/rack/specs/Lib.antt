@@ -2,6 +2,7 @@ pub mod Lists
 pub mod Bits
 pub mod Limits
 pub mod Buffers
+pub mod Putting
 pub mod Wiring
 pub mod Hops
 pub mod Columns

@@ -4,6 +4,7 @@
 
 pub mod bytes;
 pub mod limits;
+pub mod output;
 pub mod plan_file;
 pub mod refused;
 pub mod views;

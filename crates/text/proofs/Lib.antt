@@ -1,3 +1,2 @@
-pub mod Putting
 pub mod Digits
 pub mod Promises

@@ -1,4 +1,4 @@
-// Text in lent buffers: bytes and decimal numbers, appended where the text ends.
+// Text in lent buffers: decimal numbers, appended where the text ends.
 #![tactic(auto)]
 
 pub mod put;

@@ -2,7 +2,7 @@
 use mathlib.Core.Path.{sym, ap}
 use native.Mathlib.Omega.{arith}
 use lib.ListN.{length}
-use Rattle.text.proofs.Putting.{grows_as}
+use Rattle.rack.proofs.Putting.{grows_as}
 use Rattle.listing_text.proofs.Listings.{listing_refused, planned_sizes, planned_columns, listing_rack}
 use Rattle.listing_text.proofs.put_listing.Goals as goal
 

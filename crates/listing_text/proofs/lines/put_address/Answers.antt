@@ -4,7 +4,7 @@ use native.Mathlib.Omega.{arith}
 use lib.ListN.{length}
 use Rattle.rack.specs.Words.{word_bit}
 use Rattle.listing_text.specs.Listing.{dash}
-use Rattle.text.proofs.Putting.{grows_as}
+use Rattle.rack.proofs.Putting.{grows_as}
 use Rattle.listing_text.proofs.CardLines.{address_none, address_columns, length_columns}
 use Rattle.listing_text.proofs.lines.put_address.Goals as goal
 

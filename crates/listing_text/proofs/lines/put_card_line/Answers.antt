@@ -2,7 +2,7 @@
 use native.Mathlib.Omega.{arith}
 use Rattle.rack.specs.Words.{word_bit}
 use Rattle.listing_text.specs.Listing.{card_word, space, line_end, card_line}
-use Rattle.text.proofs.Putting.{grows_then, room_then}
+use Rattle.rack.proofs.Putting.{grows_then, room_then}
 use Rattle.listing_text.proofs.CardLines.{card_line_room}
 use Rattle.listing_text.proofs.lines.put_card_line.Goals as goal
 

@@ -4,7 +4,7 @@ use native.Mathlib.Omega.{arith}
 use Rattle.rack.proofs.Tables.{blocks_snoc}
 use Rattle.rack.specs.Words.{word_bit}
 use Rattle.listing_text.specs.Listing.{card_line}
-use Rattle.text.proofs.Putting.{grows_then, grows_as, room_then}
+use Rattle.rack.proofs.Putting.{grows_then, grows_as, room_then}
 use Rattle.listing_text.proofs.CardLines.{blocks_room}
 use Rattle.listing_text.proofs.lines.put_card_lines.Goals as goal
 

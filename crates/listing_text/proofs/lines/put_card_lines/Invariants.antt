@@ -1,7 +1,7 @@
 -- The lines of the first c cards are appended. Assumes nothing.
 use Rattle.rack.specs.Lists.{blocks}
 use Rattle.rack.specs.Words.{word_bit}
-use Rattle.text.specs.Putting.{Grows}
+use Rattle.rack.specs.Putting.{Grows}
 use Rattle.listing_text.specs.Listing.{card_line}
 use Rattle.listing_text.proofs.lines.put_card_lines.Given as goal
 

@@ -6,7 +6,7 @@ use native.Mathlib.Omega.{arith}
 use Rattle.rack.specs.Lists.{tabulate}
 use Rattle.rack.proofs.Tables.{length_tabulate, tabulate_snoc}
 use Rattle.rack.specs.Words.{word_bit}
-use Rattle.text.proofs.Putting.{grows_then, grows_as}
+use Rattle.rack.proofs.Putting.{grows_then, grows_as}
 use Rattle.listing_text.specs.Listing.{column_digit}
 use Rattle.listing_text.proofs.lines.put_columns.Goals as goal
 

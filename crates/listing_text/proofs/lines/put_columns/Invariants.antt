@@ -1,7 +1,7 @@
 -- The first j columns are appended. Assumes nothing.
 use Rattle.rack.specs.Lists.{tabulate}
 use Rattle.rack.specs.Words.{word_bit}
-use Rattle.text.specs.Putting.{Grows}
+use Rattle.rack.specs.Putting.{Grows}
 use Rattle.listing_text.specs.Listing.{column_digit}
 use Rattle.listing_text.proofs.lines.put_columns.Given as goal
 

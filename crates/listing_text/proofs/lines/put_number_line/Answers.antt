@@ -3,7 +3,7 @@ use mathlib.Core.List.{◌++◌}
 use native.Mathlib.Omega.{arith}
 use Rattle.text.specs.Decimals.{decimal}
 use Rattle.listing_text.specs.Listing.{number_line, line_end}
-use Rattle.text.proofs.Putting.{grows_then, room_first, room_then}
+use Rattle.rack.proofs.Putting.{grows_then, room_first, room_then}
 use Rattle.listing_text.proofs.lines.put_number_line.Goals as goal
 
 pub put_word_number-requires : goal.put_word_number-requires

@@ -3,7 +3,7 @@ use mathlib.Core.Path.{sym, ap}
 use native.Mathlib.Omega.{arith}
 use lib.ListN.{length}
 use Rattle.listing_text.specs.Listing.{at_link, at_card}
-use Rattle.text.proofs.Putting.{grows_none, grows_as}
+use Rattle.rack.proofs.Putting.{grows_none, grows_as}
 use Rattle.listing_text.proofs.Refused.{link_named, card_named, none_named}
 use Rattle.listing_text.proofs.lines.put_place.Goals as goal
 

@@ -1,6 +1,6 @@
 -- The lines of the sizes are appended, then those of the cards. Assumes nothing.
 use Rattle.listing_text.specs.Listing.{rack_lines}
-use Rattle.text.proofs.Putting.{grows_then, room_first, room_then}
+use Rattle.rack.proofs.Putting.{grows_then, room_first, room_then}
 use Rattle.listing_text.proofs.lines.put_rack.Goals as goal
 
 pub put_size_lines-requires : goal.put_size_lines-requires

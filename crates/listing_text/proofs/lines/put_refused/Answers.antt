@@ -2,7 +2,7 @@
 use native.Mathlib.Omega.{arith}
 use Rattle.rack.specs.Refused.{refusal_of}
 use Rattle.listing_text.specs.Listing.{refused_word, line_end, refused_text}
-use Rattle.text.proofs.Putting.{grows_then, room_then}
+use Rattle.rack.proofs.Putting.{grows_then, room_then}
 use Rattle.listing_text.proofs.Refused.{refused_room}
 use Rattle.listing_text.proofs.lines.put_refused.Goals as goal
 

@@ -1,7 +1,7 @@
 -- One line is appended after the other. Assumes nothing.
 use mathlib.Core.List.{◌++◌}
 use Rattle.listing_text.specs.Listing.{cards_word, links_word, columns_word, number_line, size_lines}
-use Rattle.text.proofs.Putting.{grows_then, room_first, room_then}
+use Rattle.rack.proofs.Putting.{grows_then, room_first, room_then}
 use Rattle.listing_text.proofs.lines.put_size_lines.Goals as goal
 
 pub put_number_line-requires : goal.put_number_line-requires

@@ -1,5 +1,5 @@
 -- One digit fewer is left with each call. Assumes nothing.
-use Rattle.text.proofs.put.Text.+put_digits.Given as goal
+use Rattle.text.proofs.put.+put_digits.Given as goal
 
 abbrev pub decreases-put_digits : goal.decreases-put_digits
 decreases-put_digits l = l.left

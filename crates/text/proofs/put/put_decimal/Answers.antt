@@ -1,6 +1,6 @@
 -- Ten digits. Assumes nothing.
 use Rattle.text.specs.Decimals.{decimal}
-use Rattle.text.proofs.put.Text.put_decimal.Goals as goal
+use Rattle.text.proofs.put.put_decimal.Goals as goal
 
 pub put_digits-requires : goal.put_digits-requires
 unfolding decimal
