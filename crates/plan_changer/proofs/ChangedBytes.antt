@@ -1,19 +1,21 @@
 -- The bytes of a plan with a card more and with one less, appended part by part: they fit the lent bytes, and their length. Assumes nothing.
-use mathlib.Core.Path.{◌≡◌, refl, sym, ◌∙◌}
+use mathlib.Core.Path.{◌≡◌, refl}
 use mathlib.Core.List.{List, ◌++◌}
 use Prim.Native.Nat.{ℕ, ◌+◌, ◌*◌, ◌-◌, ◌/◌, ◌≤◌, ◌<◌}
 use native.Mathlib.Nat.{suc-mul}
 use native.Mathlib.Numerals.{add-one}
 use native.Mathlib.Omega.{arith}
-use lib.ListN.{length, replicate, length-append}
+use lib.ListN.{length, length-append}
 use Rattle.rack.specs.Limits.{lent_plan, most_cards, most_links}
 use Rattle.rack.specs.Lists.{tabulate, blocks}
-use Rattle.rack.specs.Buffers.{two_bytes, Written, Appends}
+use Rattle.rack.specs.Buffers.{two_bytes}
 use Rattle.rack.specs.PlanFile.{plan_columns, address_size, addresses_start, Sized}
-use Rattle.rack.proofs.Appending.{appends_then}
 use Rattle.rack.proofs.Tables.{length_tabulate, length_blocks}
 use Rattle.rack.proofs.WiringFile.{length_two_bytes}
-use Rattle.plan_writer.proofs.WrittenPlan.{head, addresses_room, parts_written, length_parts}
+use Rattle.rack.specs.declared.output.Output.{Output}
+use Rattle.rack.specs.Putting.{Grows}
+use Rattle.rack.proofs.Putting.{grows_then}
+use Rattle.plan_writer.proofs.WrittenPlan.{head, addresses_room}
 use Rattle.plan_parts.specs.Parts.{LinksIn, first_ends, second_ends, row_byte, row_with_one}
 use Rattle.plan_changer.specs.Changed.{more_bytes, fewer_bytes}
 use Rattle.plan_parts.proofs.CopiedEnds.{length_first_ends, length_second_ends}
@@ -26,7 +28,7 @@ module _ (ps : List ℕ) {n m k : ℕ} (z : Sized ps n m k) where
   abbrev rows : (count size : ℕ) → List ℕ
   rows count size = blocks count (λ a. tabulate size (row_byte ps a))
 
-  length_rows : (count size : ℕ) → length (rows count size) ≡ count * size
+  pub length_rows : (count size : ℕ) → length (rows count size) ≡ count * size
   length_rows count size = length_blocks count size (λ a. tabulate size (row_byte ps a)) (λ a. length_tabulate size (row_byte ps a))
 
   -- A CARD MORE
@@ -34,7 +36,7 @@ module _ (ps : List ℕ) {n m k : ℕ} (z : Sized ps n m k) where
     abbrev ends_more : List ℕ
     ends_more = first_ends ps m ++ two_bytes c ++ second_ends ps m ++ two_bytes n
 
-    length_ends_more : length ends_more ≡ 4 * m + 4
+    pub length_ends_more : length ends_more ≡ 4 * m + 4
     length_ends_more =
         simp length-append
         (omega (
@@ -66,26 +68,9 @@ module _ (ps : List ℕ) {n m k : ℕ} (z : Sized ps n m k) where
     unfolding more_bytes
     bytes_more = rw (wide, z.cards, z.links, z.columns) refl
 
-    pub more_written : (at next : ℕ) (o₀ o₁ o₂ o₃ o₄ : List ℕ) → at ≡ addresses_start (m + 1) + 0 * size
-        → next ≡ addresses_start (m + 1) + n * size → o₀ ≡ replicate lent_plan 0
-        → Appends 0 o₀ o₁ (head (n + 1) (m + 1) (k + 1)) → Appends 6 o₁ o₂ ends_more → Appends at o₂ o₃ (rows n size)
-        → Appends next o₃ o₄ (row_with_one ps c) → Written o₄ (more_bytes ps c)
-    more_written at next o₀ o₁ o₂ o₃ o₄ e f zero a b d g =
-        rw bytes_more
-        (parts_written (n + 1) (m + 1) (k + 1) ends_more addresses_more at o₀ o₁ o₂ o₄ (omega (arith, length_ends_more)) zero a b
-        (appends_then at next o₂ o₃ o₄ (rows n size) (row_with_one ps c) (omega (arith, length_rows n size)) d g))
-
-    pub more_length : (r : ℕ) → r ≡ addresses_start (m + 1) + (n + 1) * size → r ≡ length (more_bytes ps c)
-    more_length r e =
-        rw bytes_more
-        (e ∙ sym (length_parts (n + 1) (m + 1) (k + 1) ends_more addresses_more ∙ omega (
-          arith,
-          rows_more,
-          length_ends_more,
-          length-append (rows n size) (row_with_one ps c),
-          length_rows n size,
-          length_row_with_one,
-        )))
+    pub more_grown : {a b d e f : Output} → Grows a b (head (n + 1) (m + 1) (k + 1)) → Grows b d ends_more → Grows d e (rows n size)
+        → Grows e f (row_with_one ps c) → Grows a f (more_bytes ps c)
+    more_grown p q r s = rw bytes_more (grows_then (grows_then p q) (grows_then r s))
 
   -- A CARD LESS
   module _ (size : ℕ) (wide : size ≡ address_size (k - 1)) where
@@ -95,7 +80,7 @@ module _ (ps : List ℕ) {n m k : ℕ} (z : Sized ps n m k) where
     abbrev ends_less : List ℕ
     ends_less = first_ends ps (m - 1) ++ second_ends ps (m - 1)
 
-    length_ends_less : length ends_less ≡ 4 * (m - 1)
+    pub length_ends_less : length ends_less ≡ 4 * (m - 1)
     length_ends_less =
         simp length-append (omega (arith, length_first_ends ps m links_in (m - 1) (omega arith), length_second_ends ps m links_in (m - 1) (omega arith)))
 
@@ -103,13 +88,5 @@ module _ (ps : List ℕ) {n m k : ℕ} (z : Sized ps n m k) where
     unfolding fewer_bytes
     bytes_less = rw (wide, z.cards, z.links, z.columns) refl
 
-    pub fewer_written : (at : ℕ) (o₀ o₁ o₂ o₃ : List ℕ) → at ≡ addresses_start (m - 1) + 0 * size → o₀ ≡ replicate lent_plan 0
-        → Appends 0 o₀ o₁ head_less → Appends 6 o₁ o₂ ends_less → Appends at o₂ o₃ (rows (n - 1) size) → Written o₃ (fewer_bytes ps)
-    fewer_written at o₀ o₁ o₂ o₃ e zero a b d =
-        rw bytes_less
-        (parts_written (n - 1) (m - 1) (k - 1) ends_less (rows (n - 1) size) at o₀ o₁ o₂ o₃ (omega (arith, length_ends_less)) zero a b d)
-
-    pub fewer_length : (r : ℕ) → r ≡ addresses_start (m - 1) + (n - 1) * size → r ≡ length (fewer_bytes ps)
-    fewer_length r e =
-        rw bytes_less
-        (e ∙ sym (length_parts (n - 1) (m - 1) (k - 1) ends_less (rows (n - 1) size) ∙ omega (arith, length_ends_less, length_rows (n - 1) size)))
+    pub fewer_grown : {a b d e : Output} → Grows a b head_less → Grows b d ends_less → Grows d e (rows (n - 1) size) → Grows a e (fewer_bytes ps)
+    fewer_grown p q r = rw bytes_less (grows_then (grows_then p q) r)

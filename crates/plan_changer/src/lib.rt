@@ -14,7 +14,8 @@ use plan_parts::links::{last_hangs, put_fewer_ends, put_more_ends};
 use plan_parts::rows::{put_row_with_one, put_rows};
 use plan_writer::put_sizes;
 use rack::limits::{LENT_PLAN, MOST_CARDS, MOST_LINKS};
-use rack::plan_file::{address_size, address_start};
+use rack::output::Output;
+use rack::plan_file::address_size;
 use rack::refused::Refused;
 use rack::views::Plan;
 
@@ -27,12 +28,15 @@ fn put_more(plan: Plan<'_>, card: usize, output: &mut [u8; LENT_PLAN]) -> usize
     let n = plan.cards;
     let m = plan.links;
     let k = plan.columns;
-    let size = address_size(k + 1);
-    put_sizes(output, n + 1, m + 1, k + 1);
-    put_more_ends(plan.bytes, m, card, n, output);
-    put_rows(plan, n, size, output, address_start(m + 1, size, 0));
-    put_row_with_one(plan, card, output, address_start(m + 1, size, n));
-    address_start(m + 1, size, n + 1)
+    let mut written = Output {
+        bytes: output,
+        length: 0,
+    };
+    put_sizes(&mut written, n + 1, m + 1, k + 1);
+    put_more_ends(plan.bytes, m, card, n, &mut written);
+    put_rows(plan, n, address_size(k + 1), &mut written);
+    put_row_with_one(plan, card, &mut written);
+    written.length
 }
 
 // Writes the plan without its last card, last link and last column into a buffer that is zero at entry; gives its length.
@@ -44,11 +48,14 @@ fn put_fewer(plan: Plan<'_>, output: &mut [u8; LENT_PLAN]) -> usize
     let n = plan.cards - 1;
     let m = plan.links - 1;
     let k = plan.columns - 1;
-    let size = address_size(k);
-    put_sizes(output, n, m, k);
-    put_fewer_ends(plan.bytes, plan.links, m, output);
-    put_rows(plan, n, size, output, address_start(m, size, 0));
-    address_start(m, size, n)
+    let mut written = Output {
+        bytes: output,
+        length: 0,
+    };
+    put_sizes(&mut written, n, m, k);
+    put_fewer_ends(plan.bytes, plan.links, m, &mut written);
+    put_rows(plan, n, address_size(k), &mut written);
+    written.length
 }
 
 // Adds a card on a new last link from `card`: 14, 16, or the length of the new plan.

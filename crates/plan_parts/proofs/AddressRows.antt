@@ -1,16 +1,14 @@
--- Addresses copied into rows of other lengths, and zeros appended to a buffer that is zero there already. Assumes nothing.
+-- Addresses in rows of other lengths: cut, with zeros behind them, and with a column more. Assumes nothing.
 use mathlib.Core.Path.{◌≡◌, refl, sym, ap, ap₂, ◌∙◌}
-use mathlib.Core.List.{List, [], ◌∷◌, ◌++◌, append_assoc, append-nil}
+use mathlib.Core.List.{List, [], ◌∷◌, ◌++◌, append-nil}
 use Prim.Native.Nat.{ℕ, zero, suc, ◌+◌, ◌*◌, ◌-◌, ◌/◌, ◌%◌, ◌^◌, ◌≤◌, ◌<◌, min}
 use native.Mathlib.Nat.{zero-add, suc-add}
 use native.Mathlib.Omega.{arith}
-use lib.ListN.{length, get_or, set, drop, replicate, length-append, length-replicate, replicate-append-replicate}
+use lib.ListN.{length, get_or, drop, replicate}
 use lib.Seq.{get_or-take, get_or-drop, ext_get_or}
 use borrow.Author.Tests.{lt-ltb, le-ltb}
 use Rattle.rack.specs.Lists.{tabulate}
-use Rattle.rack.specs.Buffers.{Written, Appends}
 use Rattle.rack.specs.PlanFile.{plan_columns, address_size, addresses_start, address_start, Sized}
-use Rattle.rack.proofs.Appending.{appended_byte}
 use Rattle.rack.proofs.Logic.{by_eq, by_lt}
 use Rattle.rack.proofs.Tables.{length_tabulate, get_or_tabulate}
 use Rattle.reader.proofs.Addresses.{address_counted}
@@ -18,27 +16,6 @@ use Rattle.reader.proofs.Parts.{length_part}
 use Rattle.plan_parts.specs.Parts.{part, row_byte, row_with_one}
 
 -- ZEROS
-written_zeros : (out xs : List ℕ) (z r : ℕ) → length out ≡ length xs + (z + r) → Written out xs → Written out (xs ++ replicate z 0)
-written_zeros out xs z r e w =
-    let l : length (xs ++ replicate z 0) ≡ length xs + z = simp (length-append, length-replicate) refl in
-    let before : length out - length xs ≡ z + r = omega arith in
-    let behind : r ≡ length out - length (xs ++ replicate z 0) = omega (arith, l) in
-    record {
-      within = omega (arith, l);
-      is =
-          w.is
-          ∙ ap (λ (i : ℕ). xs ++ replicate i 0) before
-          ∙ ap (λ (zs : List ℕ). xs ++ zs) (sym (replicate-append-replicate z r 0))
-          ∙ sym (append_assoc xs (replicate z 0) (replicate r 0))
-          ∙ ap (λ (i : ℕ). xs ++ replicate z 0 ++ replicate i 0) behind;
-    }
-
-appends_zeros : (at z : ℕ) (old new ys : List ℕ) → at + length ys + z ≤ length new → Appends at old new ys → Appends at old new (ys ++ replicate z 0)
-appends_zeros at z old new ys h a xs e w =
-    let l : length (xs ++ ys) ≡ at + length ys = simp length-append (omega arith) in
-    rw (← (append_assoc xs ys (replicate z 0)))
-    (written_zeros new (xs ++ ys) z (length new - (at + length ys + z)) (omega (arith, l)) (a xs e w))
-
 zeros_tabulate : (z : ℕ) (f : ℕ → ℕ) → ((t : ℕ) → f t ≡ 0) → tabulate z f ≡ replicate z 0
 zeros_tabulate zero f h = refl
 zeros_tabulate (suc z) f h = ap₂ ◌∷◌ (h 0) (zeros_tabulate z (λ t. f (suc t)) (λ t. h (suc t)))
@@ -97,26 +74,19 @@ module _ (ps : List ℕ) {n m c : ℕ} (z : Sized ps n m c) (a : ℕ) (h : a < n
       (λ e. rw e (omega arith))
       (λ n. ap (λ (x : ℕ). x % 2 ^ (plan_columns ps % 8)) (sym (row_byte_below ps a (plan_columns ps / 8) (omega arith))))
 
-  pub row_appended : (start wide shared at : ℕ) (old new : List ℕ) → start ≡ addresses_start m + a * address_size c → shared ≡ min (address_size c) wide
-      → length new ≡ length old → at + wide ≤ length old → Appends at old new (part ps start shared) → Appends at old new (tabulate wide (row_byte ps a))
-  row_appended start wide shared at old new e f long room w =
+  pub row_parts : (start wide shared : ℕ) → start ≡ addresses_start m + a * address_size c → shared ≡ min (address_size c) wide
+      → part ps start shared ++ replicate (wide - shared) 0 ≡ tabulate wide (row_byte ps a)
+  row_parts start wide shared e f =
       let place = (address_counted ps z a (address_size c) start h refl e).0 in
       let g : shared ≡ min size wide = rw z.columns at f in
-      let k = length_part (address_start ps a) shared ps (omega (arith, g, inside)) in
-      rw (row_wide wide shared g)
-      (appends_zeros at (wide - shared) old new (part ps (address_start ps a) shared) (omega (arith, k, g)) (rw place at w))
+      rw place (sym (row_wide wide shared g))
 
   -- the whole bytes below column k, and the byte of column k with 1 there
-  pub row_one_appended : (start b at : ℕ) (old mid : List ℕ) → start ≡ addresses_start m + a * address_size c → length mid ≡ length old
-      → at + c / 8 < length old
-      → b ≡ get_or ps (start + c / 8) 0 % 2 ^ (c % 8) + 2 ^ (c % 8) → Appends at old mid (part ps start (c / 8))
-      → Appends at old (set mid (at + c / 8) b) (row_with_one ps a)
+  pub row_one_parts : (start b : ℕ) → start ≡ addresses_start m + a * address_size c
+      → b ≡ get_or ps (start + c / 8) 0 % 2 ^ (c % 8) + 2 ^ (c % 8) → part ps start (c / 8) ++ (b ∷ []) ≡ row_with_one ps a
   unfolding row_with_one address_size
-  row_one_appended start b at old mid e l room g w =
+  row_one_parts start b e g =
       let i = c / 8 in
       let f = (address_counted ps z a (address_size c) start h refl e).0 in
       let last : row_byte ps a (c / 8) % 2 ^ (c % 8) + 2 ^ (c % 8) ≡ b = sym (g ∙ rw (f, z.columns) (ap (λ (x : ℕ). x + 2 ^ (plan_columns ps % 8)) row_byte_last)) in
-      rw (← z.columns)
-      (appended_byte at i old mid (tabulate i (row_byte ps a)) _ b (length_tabulate i (row_byte ps a)) room
-      (ap (λ (x : ℕ). tabulate i (row_byte ps a) ++ (x ∷ [])) last)
-      (record { long = l; adds = rw (f, part_row i (omega (arith, z.columns))) at w })).adds
+      rw (← z.columns) (ap₂ (λ (xs : List ℕ) (x : ℕ). xs ++ (x ∷ [])) (rw f (part_row i (omega (arith, z.columns)))) (sym last))

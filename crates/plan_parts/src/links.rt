@@ -1,15 +1,15 @@
 // The links of a plan: whether the last one is the last card's only one, and their ends copied with a link more or a link less.
 ghost use Rattle.std.specs.Prelude.{◌≡◌, ◌++◌, ◌+◌, ◌*◌, ◌<◌, ◌≤◌, length};
 ghost use Rattle.rack.specs.Lists.{FoundBelow, lowest};
-ghost use Rattle.rack.specs.Buffers.{Appends, two_bytes};
+ghost use Rattle.rack.specs.Buffers.{two_bytes};
+ghost use Rattle.rack.specs.Putting.{Grows};
 ghost use Rattle.rack.specs.Wiring.{link_at, touches};
 ghost use Rattle.rack.specs.PlanFile.{plan_wiring};
 ghost use Rattle.pendant.specs.Pendant.{last_hangs};
 ghost use Rattle.plan_parts.specs.Parts.{LinksIn, first_ends, second_ends};
 
-use rack::bytes::put_number;
+use rack::output::Output;
 use rack::views::Plan;
-use reader::read::copy_part;
 
 // Whether link `i` is one of the card's.
 fn touches_card(plan: Plan<'_>, card: usize, i: usize) -> bool
@@ -42,23 +42,23 @@ pub fn last_hangs(plan: Plan<'_>) -> bool
 }
 
 // Appends the ends of all `m` links and of one more, from `card` to `n`. The bytes need not be a plan's but for the ends, so no Plan is asked.
-pub fn put_more_ends(plan: &[u8], m: usize, card: usize, n: usize, output: &mut [u8])
-    requires { LinksIn plan.now m × (10 + 4 * m ≤ length output.old) }
-    ensures { Appends 6 output.old output.new (first_ends plan.now m ++ two_bytes card ++ second_ends plan.now m ++ two_bytes n) }
+pub fn put_more_ends(plan: &[u8], m: usize, card: usize, n: usize, output: &mut Output<'_>)
+    requires { LinksIn plan.now m × (output.old.length + 4 * m + 4 ≤ length output.old.bytes.now) }
+    ensures { Grows output.old output.new (first_ends plan.now m ++ two_bytes card ++ second_ends plan.now m ++ two_bytes n) }
 {
-    let ends = 2 * m;
-    copy_part(plan, 6, ends, output, 6);
-    put_number(output, 6 + ends, card);
-    copy_part(plan, 6 + ends, ends, output, 8 + ends);
-    put_number(output, 8 + 2 * ends, n);
+    let middle = 6 + 2 * m;
+    output.put_bytes(&plan[6..middle]);
+    output.put_number(card);
+    output.put_bytes(&plan[middle..middle + 2 * m]);
+    output.put_number(n);
 }
 
 // Appends the ends of the first `count` of `m` links.
-pub fn put_fewer_ends(plan: &[u8], m: usize, count: usize, output: &mut [u8])
-    requires { LinksIn plan.now m × (count ≤ m) × (6 + 4 * count ≤ length output.old) }
-    ensures { Appends 6 output.old output.new (first_ends plan.now count ++ second_ends plan.now count) }
+pub fn put_fewer_ends(plan: &[u8], m: usize, count: usize, output: &mut Output<'_>)
+    requires { LinksIn plan.now m × (count ≤ m) × (output.old.length + 4 * count ≤ length output.old.bytes.now) }
+    ensures { Grows output.old output.new (first_ends plan.now count ++ second_ends plan.now count) }
 {
-    let ends = 2 * count;
-    copy_part(plan, 6, ends, output, 6);
-    copy_part(plan, 6 + 2 * m, ends, output, 6 + ends);
+    let middle = 6 + 2 * m;
+    output.put_bytes(&plan[6..6 + 2 * count]);
+    output.put_bytes(&plan[middle..middle + 2 * count]);
 }

@@ -1,37 +1,40 @@
 // The plan's bytes, written into a lent buffer that is zero at entry: sizes, ends of the links, addresses.
 #![tactic(auto)]
 
-ghost use Rattle.std.specs.Prelude.{◌≡◌, ◌+◌, ◌*◌, ◌<◌, ◌≤◌, length, replicate, ◌++◌};
+ghost use Rattle.std.specs.Prelude.{◌≡◌, ◌+◌, ◌*◌, ◌<◌, ◌≤◌, ◌++◌, length, replicate};
 ghost use Rattle.rack.specs.Limits.{lent_plan, most_cards, most_columns};
 ghost use Rattle.rack.specs.Lists.{tabulate, blocks};
-ghost use Rattle.rack.specs.Buffers.{two_bytes, Appends, Written};
+ghost use Rattle.rack.specs.Buffers.{two_bytes, Written};
+ghost use Rattle.rack.specs.Putting.{Grows};
 ghost use Rattle.plan_writer.specs.Writing.{end_pair, word_byte, written_bytes};
 
-use rack::bytes::{number_at, put_number};
+use rack::bytes::number_at;
 use rack::limits::{LENT_PLAN, LENT_WORDS};
-use rack::plan_file::{address_size, address_start};
+use rack::output::Output;
+use rack::plan_file::address_size;
 use rack::views::SizedFile;
 
-// Writes the three sizes.
-pub fn put_sizes(output: &mut [u8], n: usize, m: usize, k: usize)
-    requires { 6 ≤ length output.old }
-    ensures { Appends 0 output.old output.new (two_bytes n ++ two_bytes m ++ two_bytes k) }
+// Appends the three sizes.
+pub fn put_sizes(output: &mut Output<'_>, n: usize, m: usize, k: usize)
+    requires { output.old.length + 6 ≤ length output.old.bytes.now }
+    ensures { Grows output.old output.new (two_bytes n ++ two_bytes m ++ two_bytes k) }
 {
-    put_number(output, 0, n);
-    put_number(output, 2, m);
-    put_number(output, 4, k);
+    output.put_number(n);
+    output.put_number(m);
+    output.put_number(k);
 }
 
-// Appends the ends of the links, number by number: a copy of so many bytes at once would call memmove, which the C library may not.
-fn put_ends(file: SizedFile<'_>, output: &mut [u8; LENT_PLAN])
-    ensures { Appends 6 output.old output.new (blocks (2 * file.entry.links) (end_pair file.entry.bytes.now)) }
+// Appends the ends of the links, number by number.
+fn put_ends(file: SizedFile<'_>, output: &mut Output<'_>)
+    requires { output.old.length + 4 * file.links ≤ length output.old.bytes.now }
+    ensures { Grows output.old output.new (blocks (2 * file.entry.links) (end_pair file.entry.bytes.now)) }
 {
     for i in 0..2 * file.links {
-        put_number(output, 6 + 2 * i, number_at(file.bytes, 4 + 2 * i));
+        output.put_number(number_at(file.bytes, 4 + 2 * i));
     }
 }
 
-// Byte `t` of the words of card `c`.
+// Byte `t` of the words of card `c`: a byte at once, since eight bits out of the words, put together, would be longer.
 fn address_byte(words: &[u64; LENT_WORDS], c: usize, t: usize) -> u8
     requires { (c < most_cards) × (t < 32) }
     ensures { result ≡ word_byte words.now c t }
@@ -40,34 +43,22 @@ fn address_byte(words: &[u64; LENT_WORDS], c: usize, t: usize) -> u8
 }
 
 // Appends the first `size` bytes of the words of card `c`.
-fn put_address(
-    words: &[u64; LENT_WORDS],
-    c: usize,
-    size: usize,
-    output: &mut [u8; LENT_PLAN],
-    at: usize,
-)
-    requires { (c < most_cards) × (size ≤ 32) × (at + size ≤ lent_plan) }
-    ensures { Appends at output.old output.new (tabulate size (word_byte words.now c)) }
+fn put_address(words: &[u64; LENT_WORDS], c: usize, size: usize, output: &mut Output<'_>)
+    requires { (c < most_cards) × (size ≤ 32) × (output.old.length + size ≤ length output.old.bytes.now) }
+    ensures { Grows output.old output.new (tabulate size (word_byte words.now c)) }
 {
     for t in 0..size {
-        output[at + t] = address_byte(words, c, t);
+        output.put_byte(address_byte(words, c, t));
     }
 }
 
 // Appends the addresses of `n` cards.
-fn put_addresses(
-    words: &[u64; LENT_WORDS],
-    n: usize,
-    size: usize,
-    output: &mut [u8; LENT_PLAN],
-    at: usize,
-)
-    requires { (n ≤ most_cards) × (size ≤ 32) × (at + n * size ≤ lent_plan) }
-    ensures { Appends at output.old output.new (blocks n (λ c. tabulate size (word_byte words.now c))) }
+fn put_addresses(words: &[u64; LENT_WORDS], n: usize, size: usize, output: &mut Output<'_>)
+    requires { (n ≤ most_cards) × (size ≤ 32) × (output.old.length + n * size ≤ length output.old.bytes.now) }
+    ensures { Grows output.old output.new (blocks n (λ c. tabulate size (word_byte words.now c))) }
 {
     for c in 0..n {
-        put_address(words, c, size, output, at + c * size);
+        put_address(words, c, size, output);
     }
 }
 
@@ -82,15 +73,12 @@ pub fn put_plan(
     ensures bytes { Written output.new (written_bytes file.entry.bytes.now words.now k) }
     ensures long { result ≡ length (written_bytes file.entry.bytes.now words.now k) }
 {
-    let size = address_size(k);
-    put_sizes(output, file.cards, file.links, k);
-    put_ends(file, output);
-    put_addresses(
-        words,
-        file.cards,
-        size,
-        output,
-        address_start(file.links, size, 0),
-    );
-    address_start(file.links, size, file.cards)
+    let mut written = Output {
+        bytes: output,
+        length: 0,
+    };
+    put_sizes(&mut written, file.cards, file.links, k);
+    put_ends(file, &mut written);
+    put_addresses(words, file.cards, address_size(k), &mut written);
+    written.length
 }

@@ -40,15 +40,6 @@ pub record Appended (at : ℕ) (old new ys : List ℕ) : Type 0 where
 pub appended_none : (at : ℕ) (old : List ℕ) → Appended at old old []
 appended_none at old = record { long = refl; adds = λ xs e w. rw (append-nil xs) w }
 
-pub appended_byte : (at i : ℕ) (old new ys zs : List ℕ) (b : ℕ) → length ys ≡ i → at + i < length old → zs ≡ ys ++ (b ∷ [])
-    → Appended at old new ys → Appended at old (set new (at + i) b) zs
-appended_byte at i old new ys zs b l h g a =
-    record {
-      long = simp length-set a.long;
-      adds = λ xs e w. rw (g, ← (append_assoc xs ys (b ∷ [])))
-          (written_more new (xs ++ ys) (at + i) b (simp length-append (omega arith)) (omega (arith, a.long)) (a.adds xs e w));
-    }
-
 pub appends_then : (at next : ℕ) (old mid new ys zs : List ℕ) → at + length ys ≡ next → Appends at old mid ys → Appends next mid new zs → Appends at old new (ys ++ zs)
 appends_then at next old mid new ys zs l a b xs e w =
     rw (← (append_assoc xs ys zs)) (b (xs ++ ys) (simp length-append (omega arith)) (a xs e w))

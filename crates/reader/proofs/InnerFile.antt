@@ -1,6 +1,6 @@
 -- The wiring file inside a plan: cut out of the plan's bytes, it holds the plan's wiring. Assumes nothing.
 use mathlib.Core.Path.{◌≡◌, refl, sym, ap, ap₂, ◌∙◌}
-use mathlib.Core.List.{List, [], ◌++◌}
+use mathlib.Core.List.{List, ◌++◌}
 use Prim.Native.Nat.{ℕ, suc, ◌+◌, ◌*◌, ◌-◌, ◌≤◌, ◌<◌}
 use native.Mathlib.Nat.{sub-zero}
 use native.Mathlib.Omega.{arith}
@@ -9,13 +9,15 @@ use lib.Seq.{get_or-take, get_or-drop, take_at}
 use Rattle.rack.specs.Limits.{most_links}
 use Rattle.rack.specs.Wiring.{link, wiring}
 use Rattle.rack.specs.Refusals.{refusal, links_refusal, wiring_refusal}
-use Rattle.rack.specs.Buffers.{number_at, Appends}
+use Rattle.rack.specs.Buffers.{number_at}
 use Rattle.rack.specs.WiringFile.{wiring_at, file_wiring, sizes_fault, form_refusal, file_refusal}
 use Rattle.rack.proofs.Tables.{tabulate_ext}
 use Rattle.rack.proofs.Refusals.{or_else_second}
 use Rattle.rack.proofs.WiringFile.{sized_clear, number_at_left, number_at_right}
-use Rattle.rack.proofs.Appending.{written_none, appends_then}
 use Rattle.rack.specs.PlanFile.{plan_links, plan_wiring}
+use Rattle.rack.specs.declared.output.Output.{Output}
+use Rattle.rack.specs.Putting.{Grows}
+use Rattle.rack.proofs.Putting.{grows_then, grown_written}
 use Rattle.reader.proofs.Plan.{Layout, layout_head}
 use Rattle.reader.proofs.Parts.{length_part}
 
@@ -77,15 +79,14 @@ module _ (ps : List ℕ) (z : Layout ps) where
   inner_refusal = rw (or_else_second (refusal (sizes_fault (inner_file ps)) 0) (links_refusal (file_wiring (inner_file ps))) inner_sizes, inner_wiring) refl
 
 -- copied into a buffer of zeros, piece after piece
-pub inner_copied : (ps : List ℕ) (ends : ℕ) (o₀ o₁ o₂ : List ℕ) → 6 + ends ≤ length ps → o₀ ≡ replicate (4 + 4 * most_links) 0
-    → Appends 0 o₀ o₁ (take 4 (drop 0 ps)) → Appends 4 o₁ o₂ (take ends (drop 6 ps))
-    → take (4 + ends) o₂ ≡ take 4 (drop 0 ps) ++ take ends (drop 6 ps)
-inner_copied ps ends o₀ o₁ o₂ h e a b =
-    let head = length_part 0 4 ps (omega arith) in
-    let w = appends_then 0 4 o₀ o₁ o₂ (take 4 (drop 0 ps)) (take ends (drop 6 ps)) (omega (arith, head)) a b [] refl (rw e (written_none (4 + 4 * most_links))) in
+pub inner_copied : (ps : List ℕ) (ends : ℕ) {a b c : Output} → 6 + ends ≤ length ps → a.length ≡ 0 → a.bytes.now ≡ replicate (4 + 4 * most_links) 0
+    → Grows a b (take 4 (drop 0 ps)) → Grows b c (take ends (drop 6 ps)) → take (4 + ends) c.bytes.now ≡ take 4 (drop 0 ps) ++ take ends (drop 6 ps)
+inner_copied ps ends {c = c} h z e p q =
+    let is = take 4 (drop 0 ps) ++ take ends (drop 6 ps) in
+    let w = grown_written (4 + 4 * most_links) z e (grows_then p q) in
     ap (take (4 + ends)) w.is
-    ∙ take_at (take 4 (drop 0 ps) ++ take ends (drop 6 ps)) (replicate (length o₂ - length (take 4 (drop 0 ps) ++ take ends (drop 6 ps))) 0) (4 + ends)
-    (simp length-append (omega (arith, head, length_part 6 ends ps (omega arith))))
+    ∙ take_at is (replicate (length c.bytes.now - length is) 0) (4 + ends)
+    (simp length-append (omega (arith, length_part 0 4 ps (omega arith), length_part 6 ends ps (omega arith))))
 
 -- and lent as a part of that buffer
 pub inner_lent : (ps o : List ℕ) (m : ℕ) → m ≡ plan_links ps → take (4 + 4 * m) o ≡ take 4 (drop 0 ps) ++ take (4 * m) (drop 6 ps) → take (4 + 4 * m - 0) o ≡ inner_file ps

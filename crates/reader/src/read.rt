@@ -1,6 +1,5 @@
 // Reading a plan: refusal 13, by comparison with the plan that the planner writes for the wiring inside; and a card's address.
 ghost use Rattle.std.specs.Prelude.{◌≡◌, ◌+◌, ◌*◌, ◌≤◌, ◌↔◌, ◌++◌, length, take, drop, replicate, slice_index, EachIndex, IfOk, IsTrue};
-ghost use Rattle.rack.specs.Buffers.{Appends};
 ghost use Rattle.rack.specs.Limits.{most_links};
 ghost use Rattle.reader.specs.Plan.{content_holds};
 ghost use Rattle.reader.specs.ReadPlans.{plan_of};
@@ -11,19 +10,9 @@ use crate::layout::plan_layout;
 use crate::views::ReadPlan;
 use planner::write_plan;
 use rack::limits::{LENT_PLAN, MOST_LINKS};
+use rack::output::Output;
 use rack::refused::Refused;
 use rack::views::Plan;
-
-// Appends `count` bytes of a plan, from `start` on, to a buffer that is written up to `at`. They go one by one, since a copy of so many bytes at
-// once calls memmove.
-pub fn copy_part(plan: &[u8], start: usize, count: usize, output: &mut [u8], at: usize)
-    requires { (start + count ≤ length plan.now) × (at + count ≤ length output.old) }
-    ensures { Appends at output.old output.new (take count (drop start plan.now)) }
-{
-    for i in 0..count {
-        output[at + i] = plan[start + i];
-    }
-}
 
 // Whether `written` begins with the bytes of `plan`.
 fn begins_with(written: &[u8], plan: &[u8]) -> bool
@@ -38,8 +27,12 @@ fn inner_file(plan: Plan<'_>, file: &mut [u8; 4 + 4 * MOST_LINKS])
     requires { file.old ≡ replicate (4 + 4 * most_links) 0 }
     ensures { take (4 + 4 * plan.entry.links) file.new ≡ take 4 (drop 0 plan.entry.bytes.now) ++ take (4 * plan.entry.links) (drop 6 plan.entry.bytes.now) }
 {
-    copy_part(plan.bytes, 0, 4, file, 0);
-    copy_part(plan.bytes, 6, 4 * plan.links, file, 4);
+    let mut written = Output {
+        bytes: file,
+        length: 0,
+    };
+    written.put_bytes(&plan.bytes[0..4]);
+    written.put_bytes(&plan.bytes[6..6 + 4 * plan.links]);
 }
 
 // Whether a plan has the content that the planner writes for the wiring inside.

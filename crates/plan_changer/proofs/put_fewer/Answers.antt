@@ -1,33 +1,44 @@
 -- Sizes, ends and addresses are appended in this order, and fit. Assumes nothing.
-use Rattle.std.proofs.Common.{arith, ◌-◌}
-use Rattle.plan_writer.proofs.WrittenPlan.{addresses_room}
-use Rattle.plan_changer.proofs.ChangedBytes.{links_in, fewer_written, fewer_length}
+use Rattle.std.proofs.Common.{arith, ◌-◌, refl}
+use Rattle.rack.specs.Limits.{lent_plan}
+use Rattle.rack.proofs.Putting.{grown_written, grown_long}
+use Rattle.plan_writer.proofs.WrittenPlan.{addresses_room, length_head}
+use Rattle.plan_changer.proofs.ChangedBytes.{links_in, length_ends_less, fewer_grown}
 use Rattle.plan_changer.proofs.put_fewer.Goals as goal
 
 pub put_fewer_ends-requires : goal.put_fewer_ends-requires
 put_fewer_ends-requires c =
-    let p = c.args.plan in (links_in _ p.sized, omega arith, omega (arith, p.sized.few_links, c.put_sizes.auto.output))
+    let z = c.args.plan in
+    let p = c.put_sizes.ensures in (
+      links_in _ z.sized,
+      omega arith,
+      omega (arith, z.sized.few_links, p.room, p.puts.place, length_head (z.cards - 1) (z.links - 1) (z.columns - 1), c.told-output),
+    )
 
 pub put_rows-requires : goal.put_rows-requires
 put_rows-requires c =
-    let p = c.args.plan in
-    let size = c.address_size-size in (
+    let z = c.args.plan in
+    let size = c.address_size in
+    let p = c.put_sizes.ensures in
+    let q = c.put_fewer_ends.ensures in (
       omega arith,
       size.ensures.few,
       omega (
         arith,
-        c.address_start.ensures.is,
-        p.sized.few_links,
-        addresses_room (p.cards - 1) size.result (omega (arith, p.sized.few)) size.ensures.few,
-        c.put_fewer_ends.auto.output,
-        c.put_sizes.auto.output,
+        z.sized.few_links,
+        p.room,
+        q.room,
+        p.puts.place,
+        q.puts.place,
+        length_head (z.cards - 1) (z.links - 1) (z.columns - 1),
+        length_ends_less _ z.sized size.result size.ensures.is,
+        c.told-output,
+        addresses_room (z.cards - 1) size.result (omega (arith, z.sized.few)) size.ensures.few,
       ),
     )
 
-pub returns-clause-bytes : goal.returns-clause-bytes
-returns-clause-bytes c =
-    fewer_written _ c.args.plan.sized _ c.address_size-size.ensures.is _ _ _ _ _ c.address_start.ensures.is c.requires.2
-    c.put_sizes.ensures c.put_fewer_ends.ensures c.put_rows.ensures
-
-pub returns-clause-long : goal.returns-clause-long
-returns-clause-long c = fewer_length _ c.args.plan.sized _ c.address_size-size.ensures.is _ c.address_start-2.ensures.is
+pub returns : goal.returns
+returns c =
+    let size = c.address_size in
+    let p = fewer_grown _ c.args.plan.sized size.result size.ensures.is c.put_sizes.ensures c.put_fewer_ends.ensures c.put_rows.ensures in
+    record { bytes = grown_written lent_plan refl c.requires.2 p; long = grown_long refl p }

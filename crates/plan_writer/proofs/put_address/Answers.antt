@@ -1,29 +1,22 @@
 -- One byte more of the address is appended each turn. Assumes nothing.
-use mathlib.Core.Path.{◌≡◌, subst, sym, ap, ◌∙◌}
+use mathlib.Core.Path.{sym, ap, ◌∙◌}
 use mathlib.Core.List.{◌++◌, ◌∷◌, []}
 use Prim.Native.Nat.{ℕ}
 use native.Mathlib.Omega.{arith}
-use Rattle.rack.specs.Buffers.{Appends}
 use Rattle.rack.specs.Lists.{tabulate}
 use Rattle.rack.proofs.Tables.{length_tabulate, tabulate_snoc}
-use Rattle.rack.proofs.Appending.{appended_none, appended_byte}
+use Rattle.rack.proofs.Putting.{grows_then, grows_as}
 use Rattle.plan_writer.specs.Writing.{word_byte}
 use Rattle.plan_writer.proofs.put_address.Goals as goal
 
-pub loop-t-init : goal.loop-t-init
-loop-t-init c = appended_none _ _
+pub put_byte-requires : goal.put_byte-requires
+put_byte-requires c =
+    let a = c.args in
+    let p = c.loop-t.invariant in
+    omega (arith, p.room, p.puts.place, length_tabulate c.loop-t.t (word_byte a.words.now a.c))
 
 pub loop-t-preserved : goal.loop-t-preserved
 loop-t-preserved c =
     let l = c.loop-t in
-    let a = c.args in
-    appended_byte a.at l.t _ _ (tabulate l.t (word_byte a.words.now a.c)) _ _ (length_tabulate l.t _) (omega arith)
-    (tabulate_snoc l.t (word_byte a.words.now a.c) ∙ ap
-    (λ (x : ℕ). tabulate l.t (word_byte a.words.now a.c) ++ (x ∷ [])) (sym c.address_byte.ensures)) l.invariant
-
-pub returns : goal.returns
-returns c =
-    let l = c.loop-t in
-    let a = c.args in
-    let e : l.t ≡ a.size = omega arith in
-    subst (λ (k : ℕ). Appends a.at a.output.now l.output (tabulate k (word_byte a.words.now a.c))) e l.invariant.adds
+    let f = word_byte c.args.words.now c.args.c in
+    grows_as (ap (λ (x : ℕ). tabulate l.t f ++ (x ∷ [])) c.address_byte.ensures ∙ sym (tabulate_snoc l.t f)) (grows_then l.invariant c.put_byte.ensures)
