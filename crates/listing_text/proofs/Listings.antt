@@ -72,7 +72,7 @@ module _ (bs : List ℕ) (k : ℕ) (ws : List ℕ) (p : Planned bs (answer_of (O
       (rack_lines_words (file_wiring bs) ws (p.1.words refl) (accepted_sizes bs accepted).columns)
 
 -- THE TEXT that grew by the listing, in a buffer that was made zero
-module _ (bs : List ℕ) (a b : Text) (g : Grows a b (listing bs)) (start : a.length ≡ 0) where
+module _ (bs : List ℕ) (a b : Output) (g : Grows a b (listing bs)) (start : a.length ≡ 0) where
   pub listed_length : b.length ≡ length (listing bs)
   listed_length = omega (arith, g.puts.place)
 
