@@ -47,6 +47,19 @@ pub fn put_number32(output: &mut [u8], at: usize, v: u32)
     output[at..at + 4].copy_from_slice(&v.to_le_bytes());
 }
 
+// The two ends of link `i` of `m`, in bytes whose ends stand from `base` on.
+pub fn ends(bytes: &[u8], base: usize, m: usize, i: usize) -> (usize, usize)
+    requires { (m ≡ number_at bytes.now 2) × (base + 4 * m ≤ length bytes.now) × (i < m) }
+    ensures first { result.0 ≡ (link_at (wiring_at base bytes.now) i).first }
+    ensures second { result.1 ≡ (link_at (wiring_at base bytes.now) i).second }
+    ensures small { (result.0 < 65536) × (result.1 < 65536) }
+{
+    (
+        number_at(bytes, base + 2 * i),
+        number_at(bytes, base + 2 * m + 2 * i),
+    )
+}
+
 // The first end of link `i` of `m`, in bytes whose ends stand from `base` on.
 pub fn first_end(bytes: &[u8], base: usize, m: usize, i: usize) -> usize
     requires { (m ≡ number_at bytes.now 2) × (base + 4 * m ≤ length bytes.now) × (i < m) }

@@ -2,7 +2,7 @@
 ghost use Rattle.rack.specs.Formed.{Formed, SizesAre};
 ghost use Rattle.rack.specs.PlanFile.{Sized};
 
-use crate::bytes::{bit_at, first_end, second_end};
+use crate::bytes::{bit_at, ends, first_end, second_end};
 use crate::plan_file::{address_size, address_start};
 
 // A wiring file that passed 2 to 5.
@@ -36,6 +36,16 @@ impl<'a> SizedFile<'a> {
     ghost use Rattle.rack.specs.Wiring.{link_at};
     ghost use Rattle.rack.specs.WiringFile.{file_wiring};
 
+    // The two ends of link `i`.
+    pub fn ends(self, i: usize) -> (usize, usize)
+        requires { i < self.links }
+        ensures first { result.0 ≡ (link_at (file_wiring self.entry.bytes.now) i).first }
+        ensures second { result.1 ≡ (link_at (file_wiring self.entry.bytes.now) i).second }
+        ensures small { (result.0 < 65536) × (result.1 < 65536) }
+    {
+        ends(self.bytes, 4, self.links, i)
+    }
+
     // The first end of link `i`.
     pub fn first_end(self, i: usize) -> usize
         requires { i < self.links }
@@ -59,6 +69,16 @@ impl<'a> FormedFile<'a> {
     ghost use Rattle.std.specs.Prelude.{◌≡◌, ◌<◌};
     ghost use Rattle.rack.specs.Wiring.{link_at};
     ghost use Rattle.rack.specs.WiringFile.{file_wiring};
+
+    // The two ends of link `i`, two different cards.
+    pub fn ends(self, i: usize) -> (usize, usize)
+        requires { i < self.sized.links }
+        ensures first { result.0 ≡ (link_at (file_wiring self.entry.sized.bytes.now) i).first }
+        ensures second { result.1 ≡ (link_at (file_wiring self.entry.sized.bytes.now) i).second }
+        ensures cards { (result.0 < self.entry.sized.cards) × (result.1 < self.entry.sized.cards) }
+    {
+        self.sized.ends(i)
+    }
 
     // The first end of link `i`, a card.
     pub fn first_end(self, i: usize) -> usize
@@ -84,6 +104,16 @@ impl<'a> Plan<'a> {
     ghost use Rattle.rack.specs.Limits.{lent_plan};
     ghost use Rattle.rack.specs.Wiring.{link_at};
     ghost use Rattle.rack.specs.PlanFile.{AddressIs, address_size, addresses_start, plan_bit, plan_wiring};
+
+    // The two ends of link `i`; they need not be cards.
+    pub fn ends(self, i: usize) -> (usize, usize)
+        requires { i < self.links }
+        ensures first { result.0 ≡ (link_at (plan_wiring self.entry.bytes.now) i).first }
+        ensures second { result.1 ≡ (link_at (plan_wiring self.entry.bytes.now) i).second }
+        ensures small { (result.0 < 65536) × (result.1 < 65536) }
+    {
+        ends(self.bytes, 6, self.links, i)
+    }
 
     // The first end of link `i`; it need not be a card.
     pub fn first_end(self, i: usize) -> usize
