@@ -27,8 +27,7 @@ fn far_card(plan: Plan<'_>, i: usize, a: usize) -> Option<usize>
     requires { (i < plan.links) × (a < plan.cards) }
     ensures { result ≡ far_card plan.entry.cards a (link_at (plan_wiring plan.entry.bytes.now) i) }
 {
-    let p = plan.first_end(i);
-    let q = plan.second_end(i);
+    let (p, q) = plan.ends(i);
     if p == a && q < plan.cards {
         Some(q)
     } else if q == a && p < plan.cards {

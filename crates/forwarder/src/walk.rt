@@ -58,9 +58,10 @@ fn walk_between(counted: CountedPlan<'_>, a: usize, b: usize, met: &mut [u16; LE
 }
 
 // A walk's answer: the counts raised where it arrived, or 15.
-fn counted(tally: Tally, arrived: bool, hops: u32) -> Result<Walked, Refused>
-    ensures { Counted tally (one arrived) hops (walked_of tally result) }
+fn counted(tally: Tally, route: Route) -> Result<Walked, Refused>
+    ensures { Counted tally (one route.arrived) route.hops (walked_of tally result) }
 {
+    let Route { arrived, hops } = route;
     if !arrived {
         return Ok(Walked {
             arrived,
@@ -105,7 +106,7 @@ pub fn walk_counted(
     };
     let mut cards = [0; LENT_MET];
     let route = walk_between(with_table, from as usize, goal as usize, &mut cards);
-    let walked = counted(tally, route.arrived, route.hops)?;
+    let walked = counted(tally, route)?;
     *met = cards;
     Ok(walked)
 }

@@ -16,7 +16,8 @@ fn touches_card(plan: Plan<'_>, card: usize, i: usize) -> bool
     requires { i < plan.links }
     ensures { result ≡ touches card (link_at (plan_wiring plan.entry.bytes.now) i) }
 {
-    plan.first_end(i) == card || plan.second_end(i) == card
+    let (p, q) = plan.ends(i);
+    p == card || q == card
 }
 
 // The lowest link that touches the card.
