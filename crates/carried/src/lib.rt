@@ -39,6 +39,7 @@ impl<'a> Opened<'a> {
     fn carries(self) -> bool
         ensures { result ≡ carries self.entry.bytes.now self.entry.cards self.entry.links self.entry.columns }
     {
+        // A match and no `is_ok_and`: over a closure of three tests the goal of the return stayed open.
         match plan_layout(self.bytes) {
             Ok(plan) => {
                 self.cards as usize == plan.cards
@@ -49,7 +50,8 @@ impl<'a> Opened<'a> {
         }
     }
 
-    // What a call sees: the bytes themselves, or none of them where the sizes are not those in them.
+    // What a call sees: the bytes themselves, or none of them where the sizes are not those in them. No `Err`, since 1 comes before 12 in three
+    // of its calls.
     fn seen(self) -> &'a [u8]
         ensures { SliceIs self.entry.bytes.ref_ptr (seen self.entry) result }
     {

@@ -24,6 +24,7 @@ fn touches_card(plan: Plan<'_>, card: usize, i: usize) -> bool
 fn lowest_link(plan: Plan<'_>, card: usize) -> Option<usize>
     ensures { FoundBelow plan.entry.links (lowest plan.entry.links (λ j. touches card (link_at (plan_wiring plan.entry.bytes.now) j))) result }
 {
+    // A `for` that returns: with `find` taking the last card off cost a tenth more than its limit in tests/cost.
     for i in 0..plan.links {
         if touches_card(plan, card, i) {
             return Some(i);

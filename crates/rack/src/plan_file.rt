@@ -1,4 +1,4 @@
-// Plan files seen with their sizes, and where the addresses stand in them.
+// How long an address in a plan file is, and where it begins.
 ghost use Rattle.std.specs.Prelude.{◌≡◌, ◌+◌, ◌*◌, ◌≤◌};
 ghost use Rattle.rack.specs.Limits.{lent_plan, most_cards, most_columns, most_links};
 ghost use Rattle.rack.specs.PlanFile.{address_size, addresses_start};

@@ -43,7 +43,8 @@ fn guess_plan(file: SizedFile<'_>, output: &mut [u8; LENT_PLAN]) -> Option<usize
     }
 }
 
-// Writes the plan file of a rack, or a refusal; the value is the used length.
+// Writes the plan file of a rack, or a refusal; the value is the used length. It has planner's name and clauses, and stands on it: where no
+// guess is read, the planner writes.
 pub fn write_plan(file: &[u8], output: &mut [u8]) -> Result<u32, Refused>
     ensures says { WriteSays file.now (answer_of result) output.old output.new }
     ensures found { AskedToWrite file.now output.old → PlanFound (file_wiring file.now) (answer_of result) output.new }
