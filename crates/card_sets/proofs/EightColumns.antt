@@ -92,9 +92,9 @@ pub record ColumnsWritten (n : ℕ) (rows : ℕ → ℕ → Bool) (ws : List ℕ
   pub rest : (j t : ℕ) → t < 4 → upto ≤ 4 * (j / 8) + t → get_or ws (4 * j + t) 0 ≡ 0
 
 module _ (n : ℕ) (r : ℕ → ℕ → Bool) where
-  pub columns_none : (ws : List ℕ) → ws ≡ replicate lent_words 0 → ColumnsWritten n r ws 0
-  columns_none ws e =
-      record { long = zeros_long lent_words ws e; is = λ j t l h. absurd (omega arith); rest = λ j t l h. zeros_at lent_words ws e (4 * j + t) }
+  pub columns_none : ColumnsWritten n r (replicate lent_words 0) 0
+  columns_none =
+      record { long = zeros_long lent_words _ refl; is = λ j t l h. absurd (omega arith); rest = λ j t l h. zeros_at lent_words _ refl (4 * j + t) }
 
   module _ (old : List ℕ) (v : ℕ) (done : ColumnsWritten n r old v) where
     pub next_zero : (j : ℕ) → j < 8 → get_or old (32 * (v / 4) + v % 4 + 4 * j) 0 ≡ 0

@@ -1,5 +1,5 @@
 // The cards with 1 in a column, as a set of four words, for all columns: eight cards and eight columns at a time, as the bytes of a word.
-ghost use Rattle.std.specs.Prelude.{◌≡◌, ℕ, ◌+◌, ◌*◌, ◌^◌, ◌<◌, ◌≤◌, get_or, length, replicate};
+ghost use Rattle.std.specs.Prelude.{◌≡◌, ℕ, ◌+◌, ◌*◌, ◌^◌, ◌<◌, ◌≤◌, get_or, length};
 ghost use Rattle.rack.specs.Bits.{bits_value, number_bit};
 ghost use Rattle.rack.specs.Limits.{lent_plan, lent_words};
 ghost use Rattle.rack.specs.PlanFile.{address_size, plan_bit};
@@ -83,13 +83,14 @@ fn eight_columns(
     }
 }
 
-// Writes the sets of all columns, to words that are zero.
-pub fn column_sets(plan: Plan<'_>, columns: &mut [u64; LENT_WORDS])
-    requires { columns.old ≡ replicate lent_words 0 }
-    ensures { ColumnWords plan.entry.cards plan.entry.columns (plan_bit plan.entry.bytes.now) columns.new }
+// The sets of all columns, in flat words, of which the definitions and rack's bits speak.
+pub fn column_sets(plan: Plan<'_>) -> [u64; LENT_WORDS]
+    ensures { ColumnWords plan.entry.cards plan.entry.columns (plan_bit plan.entry.bytes.now) result }
 {
     let spread = spread_words();
+    let mut columns = [0u64; LENT_WORDS];
     for v in 0..4 * plan.address_size() {
-        eight_columns(&spread, plan, v / 4, v % 4, columns);
+        eight_columns(&spread, plan, v / 4, v % 4, &mut columns);
     }
+    columns
 }

@@ -6,9 +6,9 @@ use mathlib.Core.List.{List, [], ◌∷◌, ◌++◌}
 use Prim.Native.Nat.{ℕ, ◌+◌, ◌*◌, ◌-◌, ◌≤◌, ◌<◌}
 use lib.Bits.{bit_or}
 use lib.Dec.{eqb}
-use lib.ListN.{length, get_or}
+use lib.ListN.{get_or}
 use borrow.Author.Tests.{eqb-true, eq-eqb, ne_eqb}
-use Rattle.rack.specs.Limits.{lent_words, most_cards}
+use Rattle.rack.specs.Limits.{most_cards}
 use Rattle.rack.specs.Lists.{differ, all, any, range}
 use Rattle.rack.specs.Wiring.{Link, Wiring, touches}
 use Rattle.rack.proofs.Logic.{by_bool, by_eq, or_right, equal_if_both}
@@ -96,9 +96,9 @@ module _ (n k : ℕ) (r : ℕ → ℕ → Bool) where
             (λ q. other_word a t ha ht (rw (ne_eqb l.first a p, ne_eqb l.second a q) refl) (s.others a t ht p q)))
 
   -- THE START: each card covers itself
-  pub cover_start : (ws : List ℕ) → length ws ≡ lent_words → SingleWords n ws → CoverWords n k r [] ws
-  cover_start ws long single =
-      record { long = long; is = λ a t ha ht. single a t ha ht ∙ set_ext n (eqb a) (covers k r [] a) t (λ b h. sym (or_none (eqb a b))) }
+  pub cover_start : (ws : List ℕ) → SingleWords n ws → CoverWords n k r [] ws
+  cover_start ws single =
+      record { long = single.long; is = λ a t ha ht. single.is a t ha ht ∙ set_ext n (eqb a) (covers k r [] a) t (λ b h. sym (or_none (eqb a b))) }
 
 -- THE END: all sets are full exactly if every card covers all
 module _ (w : Wiring) (k : ℕ) (r : ℕ → ℕ → Bool) (ws : List ℕ) (few : w.cards ≤ most_cards) (c : CoverWords w.cards k r w.links ws) where

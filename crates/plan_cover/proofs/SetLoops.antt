@@ -6,7 +6,7 @@ use Prim.Native.Nat.{ℕ, zero, suc, ◌+◌, ◌*◌, ◌/◌, ◌%◌, ◌^◌
 use native.Mathlib.Nat.{one-mul, pow-succ'}
 use native.Mathlib.Omega.{arith}
 use lib.Dec.{eqb}
-use lib.ListN.{length, get_or, set}
+use lib.ListN.{length, get_or, set, length-set}
 use lib.Pow.{pow_mono}
 use lib.Seq.{get_or-set_same, get_or-set_other}
 use borrow.Author.Tests.{eqb-true, eq-eqb, ne_eqb}
@@ -83,10 +83,13 @@ zeros_full (suc (suc (suc (suc t)))) h = absurd (omega arith)
 
 -- EACH CARD BY ITSELF
 abbrev pub Singles : (n : ℕ) (ws : List ℕ) (upto : ℕ) → Type 0
-Singles n ws upto = ((a t : ℕ) → a < upto → t < 4 → get_or ws (4 * a + t) 0 ≡ set_word n (eqb a) t) × ((x : ℕ) → 4 * upto ≤ x → get_or ws x 0 ≡ 0)
+Singles n ws upto =
+    (length ws ≡ lent_words)
+    × ((a t : ℕ) → a < upto → t < 4 → get_or ws (4 * a + t) 0 ≡ set_word n (eqb a) t)
+    × ((x : ℕ) → 4 * upto ≤ x → get_or ws x 0 ≡ 0)
 
-pub single_next : (n a : ℕ) (ws : List ℕ) → a < n → n ≤ most_cards → length ws ≡ lent_words → Singles n ws a → Singles n (set ws (4 * a + a / 64) (1 * 2 ^ (a % 64) % 2 ^ 64)) (a + 1)
-single_next n a ws h few long (single, rest) = (is, λ x l. get_or-set_other ws (4 * a + a / 64) x _ 0 (λ e. omega arith) ∙ rest x (omega arith))
+pub single_next : (n a : ℕ) (ws : List ℕ) → a < n → n ≤ most_cards → Singles n ws a → Singles n (set ws (4 * a + a / 64) (1 * 2 ^ (a % 64) % 2 ^ 64)) (a + 1)
+single_next n a ws h few (long, single, rest) = (simp length-set long, is, λ x l. get_or-set_other ws (4 * a + a / 64) x _ 0 (λ e. omega arith) ∙ rest x (omega arith))
   where
     here : (t : ℕ) → t < 4 → get_or (set ws (4 * a + a / 64) (1 * 2 ^ (a % 64) % 2 ^ 64)) (4 * a + t) 0 ≡ cond (eqb t (a / 64)) (2 ^ (a % 64)) 0
     here t l =

@@ -42,9 +42,11 @@ pub record WordsJoined (columns full : List ℕ) (p q j : ℕ) (rest : Bool) (ol
   pub second : (t : ℕ) → t < upto → get_or new (4 * q + t) 0 ≡ bit_or (get_or old (4 * q + t) 0) (get_or full t 0 - far_word columns full j rest t)
   pub others : (x : ℕ) → ((t : ℕ) → t < upto → x ≢ 4 * p + t) → ((t : ℕ) → t < upto → x ≢ 4 * q + t) → get_or new x 0 ≡ get_or old x 0
 
--- the set of all cards, and four words a card that hold that card alone
+-- the set of all cards
 abbrev pub FullWords : (n : ℕ) → List ℕ → Type 0
 FullWords n f = (t : ℕ) → t < 4 → get_or f t 0 ≡ full_word n t
 
-abbrev pub SingleWords : (n : ℕ) → List ℕ → Type 0
-SingleWords n ws = (a t : ℕ) → a < n → t < 4 → get_or ws (4 * a + t) 0 ≡ set_word n (eqb a) t
+-- four words a card hold that card alone
+pub record SingleWords (n : ℕ) (ws : List ℕ) : Type 0 where
+  pub long : length ws ≡ lent_words
+  pub is : (a t : ℕ) → a < n → t < 4 → get_or ws (4 * a + t) 0 ≡ set_word n (eqb a) t

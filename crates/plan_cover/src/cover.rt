@@ -1,37 +1,37 @@
 // The sets of cards that the cards cover, four words a card: the far sides of each link are joined to the sets of its ends.
-ghost use Rattle.std.specs.Prelude.{◌≡◌, [], true, cond, ◌≢◌, ℕ, ◌+◌, ◌*◌, ◌-◌, ◌<◌, ◌≤◌, get_or, replicate};
-ghost use Rattle.rack.specs.Limits.{lent_words, most_cards};
-ghost use Rattle.rack.specs.Refusals.{links_refusal};
+// The words stay flat: the definitions and rack's bits speak of flat words, and rows of four would need each law once more.
+ghost use Rattle.std.specs.Prelude.{◌≡◌, cond, ◌≢◌, ℕ, ◌+◌, ◌*◌, ◌-◌, ◌<◌, ◌≤◌, get_or};
+ghost use Rattle.rack.specs.Limits.{most_cards};
 ghost use Rattle.rack.specs.PlanFile.{plan_bit, plan_wiring};
-ghost use Rattle.plan_tests.specs.Tests.{cards_covered, columns_in_order};
-ghost use Rattle.plan_tests.specs.Crossed.{CrossedColumns};
-ghost use Rattle.card_sets.specs.Sets.{ColumnWords};
+ghost use Rattle.plan_tests.specs.Tests.{cards_covered};
 ghost use Rattle.plan_cover.specs.Covers.{CoverWords, FullWords, SingleWords, WordsJoined, words_full};
 
 use card_sets::columns::column_sets;
-use rack::limits::{LENT_WORDS, MOST_LINKS};
+use plan_tests::order::CrossedPlan;
+use rack::limits::LENT_WORDS;
 use rack::views::Plan;
 
 // The set of all cards.
-fn full_words(n: usize) -> [u64; 4]
-    requires { n ≤ most_cards }
-    ensures { FullWords n result }
+fn full_words(plan: Plan<'_>) -> [u64; 4]
+    ensures { FullWords plan.entry.cards result }
 {
     let mut full = [0u64; 4];
-    for c in 0..n {
+    for c in 0..plan.cards {
         full[c / 64] += 1u64 << (c % 64);
     }
     full
 }
 
-// Writes to each card's words, which are zero, the set of that card alone.
-fn single_sets(n: usize, cover: &mut [u64; LENT_WORDS])
-    requires { (n ≤ most_cards) × (cover.old ≡ replicate lent_words 0) }
-    ensures { SingleWords n cover.new }
+// For each card the set of that card alone.
+fn single_sets(plan: Plan<'_>) -> [u64; LENT_WORDS]
+    ensures { SingleWords plan.entry.cards result }
 {
-    for a in 0..n {
+    let mut cover = [0u64; LENT_WORDS];
+    for a in 0..plan.cards {
+        // Not rack's `set_bit`: it says bits alone, and no fact bounds an array's words by 2 ^ 64, as their equality to sets of 64 bits needs.
         cover[4 * a + a / 64] = 1u64 << (a % 64);
     }
+    cover
 }
 
 // The far side of a link in a word, from its column's word: the rest of the cards where the end has 1 in it.
@@ -63,43 +63,33 @@ fn join_sides(
     }
 }
 
-// Joins the far sides of all links to the sets of their ends.
-fn join_links(
-    plan: Plan<'_>,
-    crossed: &[u8; MOST_LINKS],
-    columns: &[u64; LENT_WORDS],
-    full: &[u64; 4],
-    cover: &mut [u64; LENT_WORDS],
-)
-    requires { ((links_refusal (plan_wiring plan.bytes.now)).number ≡ 0) × (columns_in_order plan.columns (plan_bit plan.bytes.now) 0 (plan_wiring plan.bytes.now).links ≡ true) × CrossedColumns plan.columns (plan_bit plan.bytes.now) (plan_wiring plan.bytes.now) crossed.now plan.links × ColumnWords plan.cards plan.columns (plan_bit plan.bytes.now) columns.now × FullWords plan.cards full.now × CoverWords plan.cards plan.columns (plan_bit plan.bytes.now) [] cover.old }
-    ensures { CoverWords plan.entry.cards plan.entry.columns (plan_bit plan.entry.bytes.now) (plan_wiring plan.entry.bytes.now).links cover.new }
+// The sets that the cards cover: the far sides of all links are joined to the sets of their ends.
+fn cover_sets(crossed: CrossedPlan<'_, '_>) -> [u64; LENT_WORDS]
+    ensures { CoverWords crossed.entry.linked.plan.cards crossed.entry.linked.plan.columns (plan_bit crossed.entry.linked.plan.bytes.now) (plan_wiring crossed.entry.linked.plan.bytes.now).links result }
 {
+    let plan = crossed.linked.plan;
+    let columns = column_sets(plan);
+    let full = full_words(plan);
+    let mut cover = single_sets(plan);
     for i in 0..plan.links {
-        let p = plan.first_end(i);
-        let q = plan.second_end(i);
-        let j = usize::from(crossed[i]);
-        join_sides(columns, full, p, q, j, plan.bit(p, j), cover);
+        let (p, q) = plan.ends(i);
+        let j = usize::from(crossed.crossed[i]);
+        join_sides(&columns, &full, p, q, j, plan.bit(p, j), &mut cover);
     }
+    cover
 }
 
 // Whether every card's set is full.
-fn words_full(n: usize, full: &[u64; 4], cover: &[u64; LENT_WORDS]) -> bool
-    requires { (n ≤ most_cards) × FullWords n full.now }
-    ensures { result ≡ words_full n cover.now }
+fn words_full(plan: Plan<'_>, cover: &[u64; LENT_WORDS]) -> bool
+    ensures { result ≡ words_full plan.entry.cards cover.now }
 {
-    (0..4 * n).all(|i| cover[i] == full[i % 4])
+    let full = full_words(plan);
+    (0..4 * plan.cards).all(|i| cover[i] == full[i % 4])
 }
 
-// Whether every card covers all cards, where the links cross their columns in order; `crossed` has the column of each.
-pub fn cards_covered(plan: Plan<'_>, crossed: &[u8; MOST_LINKS]) -> bool
-    requires { ((links_refusal (plan_wiring plan.bytes.now)).number ≡ 0) × (columns_in_order plan.columns (plan_bit plan.bytes.now) 0 (plan_wiring plan.bytes.now).links ≡ true) × CrossedColumns plan.columns (plan_bit plan.bytes.now) (plan_wiring plan.bytes.now) crossed.now plan.links }
-    ensures { result ≡ cards_covered (plan_wiring plan.entry.bytes.now) plan.entry.columns (plan_bit plan.entry.bytes.now) }
+// Whether every card covers all cards.
+pub fn cards_covered(crossed: CrossedPlan<'_, '_>) -> bool
+    ensures { result ≡ cards_covered (plan_wiring crossed.entry.linked.plan.bytes.now) crossed.entry.linked.plan.columns (plan_bit crossed.entry.linked.plan.bytes.now) }
 {
-    let mut columns = [0u64; LENT_WORDS];
-    column_sets(plan, &mut columns);
-    let full = full_words(plan.cards);
-    let mut cover = [0u64; LENT_WORDS];
-    single_sets(plan.cards, &mut cover);
-    join_links(plan, crossed, &columns, &full, &mut cover);
-    words_full(plan.cards, &full, &cover)
+    words_full(crossed.linked.plan, &cover_sets(crossed))
 }

@@ -22,12 +22,12 @@ use Rattle.rack.proofs.WordBits.{no_bit}
 use Rattle.plan_tests.specs.Marks.{LinksMarked}
 
 -- LINK BY LINK
-pub none_marked : (w : Wiring) (ms : List ℕ) → ms ≡ replicate lent_words 0 → LinksMarked w 0 ms
+pub none_marked : (w : Wiring) → LinksMarked w 0 (replicate lent_words 0)
 unfolding word_bit
-none_marked w ms e =
+none_marked w =
     record {
-      long = zeros_long lent_words ms e;
-      is = λ a b ha hb n. rw (zeros_at lent_words ms e (4 * a + b / 64), zeros_at lent_words ms e (4 * b + a / 64), no_bit (b % 64), no_bit (a % 64)) refl;
+      long = zeros_long lent_words _ refl;
+      is = λ a b ha hb n. rw (zeros_at lent_words _ refl (4 * a + b / 64), zeros_at lent_words _ refl (4 * b + a / 64), no_bit (b % 64), no_bit (a % 64)) refl;
     }
 
 module _ (w : Wiring) (i p q : ℕ) (ep : p ≡ (link_at w i).first) (eq : q ≡ (link_at w i).second) (hp : p < most_cards) (hq : q < most_cards) (apart : p ≢ q)

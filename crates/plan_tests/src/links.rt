@@ -1,7 +1,7 @@
 // Refusals 6 to 8 of the links inside a plan. Two links may join the same two cards: the first sets the mark of its ends in the order in
 // which it names them, and where that one is set, the mark in the other order.
-ghost use Rattle.std.specs.Prelude.{◌≡◌, true, not, ◌+◌, ◌<◌, eqb, replicate};
-ghost use Rattle.rack.specs.Limits.{lent_words, most_cards};
+ghost use Rattle.std.specs.Prelude.{◌≡◌, true, not, ◌+◌, ◌<◌, eqb};
+ghost use Rattle.rack.specs.Limits.{most_cards};
 ghost use Rattle.rack.specs.Refusals.{link_fault, links_refusal};
 ghost use Rattle.rack.specs.PlanFile.{plan_wiring};
 ghost use Rattle.rack.specs.Words.{BitSet, word_bit};
@@ -10,6 +10,13 @@ ghost use Rattle.plan_tests.specs.Marks.{LinksMarked};
 use rack::limits::LENT_WORDS;
 use rack::views::Plan;
 use rack::words::{set_bit, word_bit};
+
+// A plan to whose links none of 6 to 8 applies.
+#[derive(Clone, Copy, Debug, PartialEq, Eq)]
+pub struct LinkedPlan<'a> {
+    pub plan: Plan<'a>,
+    pub ghost links: { (links_refusal (plan_wiring plan.bytes.now)).number ≡ 0 },
+}
 
 // Sets the mark of cards `a` and `b`, in this order; whether it was free.
 fn set_mark(marks: &mut [u64; LENT_WORDS], a: usize, b: usize) -> bool
@@ -28,21 +35,20 @@ fn link_holds(plan: Plan<'_>, i: usize, marks: &mut [u64; LENT_WORDS]) -> bool
     ensures is { result ≡ eqb (link_fault (plan_wiring plan.entry.bytes.now) i) 0 }
     ensures marks { result ≡ true → LinksMarked (plan_wiring plan.entry.bytes.now) (i + 1) marks.new }
 {
-    let p = plan.first_end(i);
-    let q = plan.second_end(i);
+    let (p, q) = plan.ends(i);
     if plan.cards <= p || plan.cards <= q || p == q {
         return false;
     }
     set_mark(marks, p, q) || set_mark(marks, q, p)
 }
 
-// Whether none of 6 to 8 applies to the links. The marks are zero at entry.
-pub fn links_hold(plan: Plan<'_>, marks: &mut [u64; LENT_WORDS]) -> bool
-    requires { marks.old ≡ replicate lent_words 0 }
+// Whether none of 6 to 8 applies to the links.
+pub fn links_hold(plan: Plan<'_>) -> bool
     ensures { result ≡ eqb (links_refusal (plan_wiring plan.entry.bytes.now)).number 0 }
 {
+    let mut marks = [0u64; LENT_WORDS];
     for i in 0..plan.links {
-        if !link_holds(plan, i, marks) {
+        if !link_holds(plan, i, &mut marks) {
             return false;
         }
     }

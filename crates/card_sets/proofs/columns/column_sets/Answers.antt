@@ -7,7 +7,7 @@ use Rattle.card_sets.proofs.EightColumns.{columns_none, next_zero, columns_more,
 use Rattle.card_sets.proofs.columns.column_sets.Goals as goal
 
 pub loop-v-init : goal.loop-v-init
-loop-v-init c = let z = c.args.plan in columns_none z.cards (plan_bit z.bytes.now) c.args.columns.now c.requires
+loop-v-init c = let z = c.args.plan in columns_none z.cards (plan_bit z.bytes.now)
 
 pub eight_columns-requires : goal.eight_columns-requires
 eight_columns-requires c =

@@ -9,12 +9,12 @@ pub loop-c-init : goal.loop-c-init
 loop-c-init c = (refl, zeros_full)
 
 pub overflow_add-full : goal.overflow_add-full
-overflow_add-full c = record { fits = full_fits c.loop-c.c c.loop-c.full (omega (arith, c.requires)) c.loop-c.invariant.1 }
+overflow_add-full c = record { fits = full_fits c.loop-c.c c.loop-c.full (omega (arith, c.args.plan.sized.few)) c.loop-c.invariant.1 }
 
 pub loop-c-preserved : goal.loop-c-preserved
 loop-c-preserved c =
     let l = c.loop-c in
-    (simp length-set l.invariant.0, full_next l.c l.full (omega (arith, c.requires)) l.invariant.1 (omega (arith, l.invariant.0, c.requires)))
+    (simp length-set l.invariant.0, full_next l.c l.full (omega (arith, c.args.plan.sized.few)) l.invariant.1 (omega (arith, l.invariant.0, c.args.plan.sized.few)))
 
 pub returns : goal.returns
-returns c = let e : c.loop-c.c ≡ c.args.n = omega arith in rw e at c.loop-c.invariant.1
+returns c = let e : c.loop-c.c ≡ c.args.plan.cards = omega arith in rw e at c.loop-c.invariant.1

@@ -11,8 +11,10 @@ use Rattle.plan_cover.proofs.cover.words_full.Goals as goal
 
 pub returns : goal.returns
 returns c =
-    let a = c.args in
-    let p = agrees a.n a.full.now a.cover.now c.requires.1 in
-    all_numbers (4 * a.n) p _ (cases_from_all _ _ _ (λ x. p x ≡ true) (λ x. p x ≡ false) c.all.ensures.ran (YieldsList-from_range 0 (4 * a.n) (4 * a.n) refl (omega arith))
+    let n = c.args.plan.cards in
+    let full = c.full_words-full in
+    let ws = c.args.cover.now in
+    let p = agrees n full.result ws full.ensures in
+    all_numbers (4 * n) p _ (cases_from_all _ _ _ (λ x. p x ≡ true) (λ x. p x ≡ false) c.all.ensures.ran (YieldsList-from_range 0 (4 * n) (4 * n) refl (omega arith))
     (λ x q k. search (rules, tests)) (λ x q k. search (rules, tests)))
-    ∙ words_exactly a.n a.full.now a.cover.now c.requires.1
+    ∙ words_exactly n full.result ws full.ensures

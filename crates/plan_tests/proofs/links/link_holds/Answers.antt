@@ -26,8 +26,8 @@ module _ (ps : List ℕ) (n m k : ℕ) (z : Sized ps n m k) where
 
 pub returns-then-plan-p-clause-is : goal.returns-then-plan-p-clause-is
 returns-then-plan-p-clause-is c =
-    let p = c.first_end-p.ensures.is in
-    let q = c.second_end-q.ensures.is in
+    let p = c.ends-p.ensures.first in
+    let q = c.ends-p.ensures.second in
     let few = cards _ _ _ _ c.args.plan.sized in
     let inner = plan_wiring c.args.plan.bytes.now in
     let none : (n : ℕ) → link_fault inner c.args.i ≡ n + 1 → false ≡ eqb (link_fault inner c.args.i) 0 = λ n e. sym (ne_eqb _ 0 (λ f. omega arith)) in
@@ -46,7 +46,7 @@ free : (c : Then-set_mark) → Holds c.args.plan.bytes.now c.args.i c.set_mark.r
 free c =
     let few = cards _ _ _ _ c.args.plan.sized in
     let many = c.args.plan.sized.few in
-    rw c.if-set_mark.true (first_free _ c.args.i c.first_end-p.result c.second_end-q.result c.first_end-p.ensures.is c.second_end-q.ensures.is
+    rw c.if-set_mark.true (first_free _ c.args.i c.ends-p.result.0 c.ends-p.result.1 c.ends-p.ensures.first c.ends-p.ensures.second
     (omega arith) (omega arith) c.if-p-q.false _ c.requires.1 (inside _ _ _ _ c.args.plan.sized c.args.i c.requires.0) (omega arith) (omega arith) _
     (rw c.if-set_mark.true at c.set_mark.ensures.free) c.set_mark.ensures.set)
 
@@ -54,7 +54,7 @@ taken : (c : After-set_mark-else-set_mark) → Holds c.args.plan.bytes.now c.arg
 taken c =
     let few = cards _ _ _ _ c.args.plan.sized in
     let many = c.args.plan.sized.few in
-    second_free _ c.args.i c.first_end-p.result c.second_end-q.result c.first_end-p.ensures.is c.second_end-q.ensures.is
+    second_free _ c.args.i c.ends-p.result.0 c.ends-p.result.1 c.ends-p.ensures.first c.ends-p.ensures.second
     (omega arith) (omega arith) c.if-p-q.false _ c.requires.1 (inside _ _ _ _ c.args.plan.sized c.args.i c.requires.0) (omega arith) (omega arith) _ _
     (rw c.if-set_mark.false at c.set_mark.ensures.free) c.set_mark.ensures.set _
     c.set_mark-else-set_mark.ensures.free c.set_mark-else-set_mark.ensures.set

@@ -10,7 +10,7 @@ use Rattle.plan_tests.proofs.Marks.{none_marked}
 use Rattle.plan_tests.proofs.links.links_hold.Goals as goal
 
 pub loop-i-init : goal.loop-i-init
-loop-i-init c = (none_marked _ _ c.requires, clear_none _)
+loop-i-init c = (none_marked _, clear_none _)
 
 pub returns-then-not-link_holds : goal.returns-then-not-link_holds
 returns-then-not-link_holds c =

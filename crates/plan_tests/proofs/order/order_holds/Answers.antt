@@ -9,24 +9,24 @@ use Rattle.plan_tests.proofs.order.order_holds.Goals as goal
 use Rattle.plan_tests.proofs.order.order_holds.Goals.{In-Some, then-j-opened, else-j-opened}
 
 -- what is known of link i, where its column is found
-found : (c : In-Some) → ColumnFound c.args.counted.plan.bytes.now c.args.counted.plan.columns c.loop-i.i c.in-Some.j
+found : (c : In-Some) → ColumnFound c.args.linked.plan.bytes.now c.args.linked.plan.columns c.loop-i.i c.in-Some.j
 found c =
-    let z = c.args.counted.plan in
-    column_found z.bytes.now z.cards z.links z.columns z.sized c.loop-i.i (omega arith) c.first_end.result c.second_end.result
-    c.first_end.ensures.is c.second_end.ensures.is c.in-Some.j c.in-Some.ensures
+    let z = c.args.linked.plan in
+    column_found z.bytes.now z.cards z.links z.columns z.sized c.loop-i.i (omega arith) c.ends-p.result.0 c.ends-p.result.1
+    c.ends-p.ensures.first c.ends-p.ensures.second c.in-Some.j c.in-Some.ensures
 
 pub only_column-requires : goal.only_column-requires
 only_column-requires c =
-    let z = c.args.counted.plan in
-    let ends = ends_inside z.bytes.now z.cards z.links z.columns z.sized c.loop-i.i (omega arith) c.requires in
-    (omega (arith, c.first_end.ensures.is, ends), omega (arith, c.second_end.ensures.is, ends))
+    let z = c.args.linked.plan in
+    let ends = ends_inside z.bytes.now z.cards z.links z.columns z.sized c.loop-i.i (omega arith) c.args.linked.links in
+    (omega (arith, c.ends-p.ensures.first, ends), omega (arith, c.ends-p.ensures.second, ends))
 
 pub returns-in_default-clause-is : goal.returns-in_default-clause-is
 returns-in_default-clause-is c =
-    let z = c.args.counted.plan in
+    let z = c.args.linked.plan in
     let l = c.loop-i in
-    sym (l.invariant.1 ∙ none_found z.bytes.now z.cards z.links z.columns z.sized l.i (omega arith) c.first_end.result c.second_end.result
-    c.first_end.ensures.is c.second_end.ensures.is c.in_default.ensures l.opened)
+    sym (l.invariant.1 ∙ none_found z.bytes.now z.cards z.links z.columns z.sized l.i (omega arith) c.ends-p.result.0 c.ends-p.result.1
+    c.ends-p.ensures.first c.ends-p.ensures.second c.in_default.ensures l.opened)
 
 pub returns-then-opened-j-clause-is : goal.returns-then-opened-j-clause-is
 returns-then-opened-j-clause-is c =
@@ -35,7 +35,7 @@ returns-then-opened-j-clause-is c =
 
 pub loop-i-preserved : goal.loop-i-preserved
 loop-i-preserved c =
-    let z = c.args.counted.plan in
+    let z = c.args.linked.plan in
     let l = c.loop-i in
     let j = c.in-Some.j in
     let f = found (goal.at.loop-i-preserved c).In-Some in
@@ -51,7 +51,7 @@ loop-i-preserved c =
 
 pub returns-clause-is : goal.returns-clause-is
 returns-clause-is c =
-    let z = c.args.counted.plan in
+    let z = c.args.linked.plan in
     let l = c.loop-i in
     let e : l.i ≡ z.links = omega arith in
     sym (l.invariant.1 ∙ ap (λ (i : ℕ). in_order_from z.bytes.now z.columns i l.opened) e

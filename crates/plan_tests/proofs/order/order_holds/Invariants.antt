@@ -10,8 +10,8 @@ use Rattle.plan_tests.proofs.order.order_holds.Given as goal
 
 abbrev pub invariant-loop-i : goal.invariant-loop-i
 invariant-loop-i l =
-    let ps = l.counted.plan.bytes.now in
-    let k = l.counted.plan.columns in
+    let ps = l.linked.plan.bytes.now in
+    let k = l.linked.plan.columns in
     (l.opened ≤ l.i)
     × (columns_in_order k (plan_bit ps) 0 (plan_wiring ps).links ≡ in_order_from ps k l.i l.opened)
     × CrossedColumns k (plan_bit ps) (plan_wiring ps) l.crossed l.i

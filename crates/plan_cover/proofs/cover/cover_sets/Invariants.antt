@@ -2,7 +2,7 @@
 use lib.ListN.{take}
 use Rattle.rack.specs.PlanFile.{plan_bit, plan_wiring}
 use Rattle.plan_cover.specs.Covers.{CoverWords}
-use Rattle.plan_cover.proofs.cover.join_links.Given as goal
+use Rattle.plan_cover.proofs.cover.cover_sets.Given as goal
 
 abbrev pub invariant-loop-i : goal.invariant-loop-i
 invariant-loop-i l =
