@@ -25,7 +25,7 @@ fn side(file: MeasuredFile<'_>, p: usize, q: usize, c: usize) -> bool
 }
 
 // Adds column `k`, that of a link from `p` to `q`, to the words of the cards: a sum, since with an `if` the slowest rack that was found
-// and accepted took a twentieth longer, 579 in place of 552 µs.
+// and accepted took 577 to 582 µs, and without one 549 to 554.
 fn add_column(file: MeasuredFile<'_>, p: usize, q: usize, k: usize, words: &mut [u64; LENT_WORDS])
     requires { (p < most_cards) × (q < most_cards) × (k ≤ most_columns) × ((c : ℕ) → c < file.formed.sized.cards → get_or words.old (4 * c + k / 64) 0 < 2 ^ (k % 64)) }
     ensures { ColumnAdded file.entry.hops.now words.old words.new p q k file.entry.formed.sized.cards }

@@ -30,6 +30,7 @@ use rack::views::{FormedFile, SizedFile};
 use survey::hops::{all_hops, parity_refusal};
 use survey::links::{formed_file, sized_file};
 use survey::measured::{ConnectedFile, MeasuredFile};
+use survey::ordered::OrderedFile;
 use survey::reach::reach_refusal;
 
 pub mod columns;
@@ -58,7 +59,8 @@ fn plan_connected(file: ConnectedFile<'_>, words: &mut [u64; LENT_WORDS]) -> Res
     address_cards(file, words).ok_or(Refused::NoAddresses)
 }
 
-// The columns of a file that passed 2 to 8, with its plan in the buffers, or 9, 10 or 11.
+// The columns of a file that passed 2 to 8, with its plan in the buffers, or 9, 10 or 11. Two lent buffers and no struct over them, here and
+// in the two functions below: the public call is lent them so.
 fn plan_formed(
     file: FormedFile<'_>,
     words: &mut [u64; LENT_WORDS],
@@ -68,8 +70,12 @@ fn plan_formed(
 {
     let mut order = [0u16; MOST_LINKS];
     put_link_order(file, &mut order);
-    reach_refusal(file, &order, hops)?;
-    all_hops(file, &order, hops);
+    let ordered = OrderedFile {
+        formed: file,
+        order: &order,
+    };
+    reach_refusal(ordered, hops)?;
+    all_hops(ordered, hops);
     let measured = MeasuredFile { formed: file, hops };
     plan_connected(ConnectedFile { measured }, words)
 }

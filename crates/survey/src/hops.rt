@@ -1,5 +1,5 @@
 // Hops between all cards: upper bounds in a lent table, lowered over the links until no link lowers any; and refusal 10.
-ghost use Rattle.std.specs.Prelude.{◌≡◌, true, ◌+◌, ◌<◌, ◌≤◌};
+ghost use Rattle.std.specs.Prelude.{◌≡◌, true, ◌+◌, ◌<◌};
 ghost use Rattle.std.specs.Iterator.{IsFinite};
 ghost use Rattle.rack.specs.Limits.{most_cards};
 ghost use Rattle.rack.specs.Hops.{connected};
@@ -10,9 +10,10 @@ ghost use Rattle.survey.specs.Tables.{HopsIn};
 ghost use Rattle.survey.specs.Lowering.{Above, Lowered, Passed, Started, Swept};
 
 use crate::measured::MeasuredFile;
-use rack::limits::{LENT_HOPS, MOST_CARDS, MOST_LINKS};
+use crate::ordered::OrderedFile;
+use rack::limits::{LENT_HOPS, MOST_CARDS};
 use rack::refused::Refused;
-use rack::views::FormedFile;
+use rack::views::{FormedFile, SizedFile};
 
 // Lowers row `to` to one more than row `by` where that is less; gives the most that was taken off at one place. A number and no flag, here
 // and in the two functions below: the sum of the bounds falls by as much at least, and so the loop of `settle` ends.
@@ -81,49 +82,49 @@ fn sweep<'a, I: Iterator<Item = &'a u16> + Drop>(
 // bound falls below hops, so after s sweeps all pairs up to s hops apart have theirs. A round has three sweeps (every link of a connected
 // rack stands in the order once). It is the last if its third sweep lowers nothing, so at the latest if its first two have made all bounds
 // hops: a third of the diameter in rounds, rounded down, and one more are enough, and for 256 cards 86.
-fn settle(file: FormedFile<'_>, order: &[u16; MOST_LINKS], bounds: &mut [u8; LENT_HOPS])
-    requires { Above (file_wiring file.sized.bytes.now) bounds.old }
-    ensures { HopsIn (file_wiring file.entry.sized.bytes.now) bounds.new }
+fn settle(file: OrderedFile<'_>, bounds: &mut [u8; LENT_HOPS])
+    requires { Above (file_wiring file.formed.sized.bytes.now) bounds.old }
+    ensures { HopsIn (file_wiring file.entry.formed.sized.bytes.now) bounds.new }
 {
-    let links = &order[..file.sized.links];
+    let OrderedFile { formed, order } = file;
+    let links = &order[..formed.sized.links];
     loop {
-        sweep(file, links.iter().rev(), bounds);
-        sweep(file, links.iter(), bounds);
-        if lower_pass(file, bounds) == 0 {
+        sweep(formed, links.iter().rev(), bounds);
+        sweep(formed, links.iter(), bounds);
+        if lower_pass(formed, bounds) == 0 {
             return;
         }
     }
 }
 
-// Fills row `a` with what is known of the hops from card `a` of `n` before any link was looked at: fewer than n to another card, none to
-// itself. The row is zero at entry: the table is filled once, in front of the loop.
-fn start_row(n: usize, a: usize, bounds: &mut [u8; LENT_HOPS])
-    requires { (n ≤ most_cards) × (a < n) × Started n bounds.old a }
-    ensures { Started n bounds.new (a + 1) }
+// Fills row `a` with what is known of the hops from card `a` before any link was looked at: fewer than there are cards to another card, none
+// to itself. The row is zero at entry: the table is filled once, in front of the loop.
+fn start_row(file: SizedFile<'_>, a: usize, bounds: &mut [u8; LENT_HOPS])
+    requires { (a < file.cards) × Started file.cards bounds.old a }
+    ensures { Started file.entry.cards bounds.new (a + 1) }
 {
     let row = MOST_CARDS * a;
-    bounds[row..row + n].fill((n - 1) as u8);
+    bounds[row..row + file.cards].fill((file.cards - 1) as u8);
     bounds[row + a] = 0;
 }
 
 // Fills the table with those bounds.
-fn start_bounds(n: usize, bounds: &mut [u8; LENT_HOPS])
-    requires { n ≤ most_cards }
-    ensures { Started n bounds.new n }
+fn start_bounds(file: SizedFile<'_>, bounds: &mut [u8; LENT_HOPS])
+    ensures { Started file.entry.cards bounds.new file.entry.cards }
 {
     bounds.fill(0);
-    for a in 0..n {
-        start_row(n, a, bounds);
+    for a in 0..file.cards {
+        start_row(file, a, bounds);
     }
 }
 
 // The hops between all cards of a connected rack.
-pub fn all_hops(file: FormedFile<'_>, order: &[u16; MOST_LINKS], hops: &mut [u8; LENT_HOPS])
-    requires { connected (file_wiring file.sized.bytes.now) ≡ true }
-    ensures { HopsIn (file_wiring file.entry.sized.bytes.now) hops.new }
+pub fn all_hops(file: OrderedFile<'_>, hops: &mut [u8; LENT_HOPS])
+    requires { connected (file_wiring file.formed.sized.bytes.now) ≡ true }
+    ensures { HopsIn (file_wiring file.entry.formed.sized.bytes.now) hops.new }
 {
-    start_bounds(file.sized.cards, hops);
-    settle(file, order, hops);
+    start_bounds(file.formed.sized, hops);
+    settle(file, hops);
 }
 
 // The lowest link whose ends have equal hops from card 0, with 10.

@@ -15,4 +15,5 @@
 pub mod hops;
 pub mod links;
 pub mod measured;
+pub mod ordered;
 pub mod reach;

@@ -4,8 +4,8 @@ use Rattle.rack.specs.WiringFile.{file_wiring}
 use Rattle.survey.specs.Lowering.{Above}
 use Rattle.survey.proofs.hops.settle.Given as goal
 
-abbrev pub invariant-loop-links : goal.invariant-loop-links
-invariant-loop-links l = Above (file_wiring l.file.sized.bytes.now) l.bounds
+abbrev pub invariant-loop-formed : goal.invariant-loop-formed
+invariant-loop-formed l = Above (file_wiring l.file.formed.sized.bytes.now) l.bounds
 
-abbrev pub decreases-loop-links : goal.decreases-loop-links
-decreases-loop-links l = sum l.bounds
+abbrev pub decreases-loop-formed : goal.decreases-loop-formed
+decreases-loop-formed l = sum l.bounds

@@ -6,4 +6,4 @@ use Rattle.survey.proofs.hops.start_row.Goals as goal
 pub returns : goal.returns
 returns c =
     let z = c.args in
-    started_row z.n z.a z.bounds.now c.requires.0 c.requires.1 c.requires.2 _ _ (omega arith) (c.fill.ensures.after (λ y e. e))
+    started_row z.file.cards z.a z.bounds.now z.file.sizes.few c.requires.0 c.requires.1 _ _ (omega arith) (c.fill.ensures.after (λ y e. e))

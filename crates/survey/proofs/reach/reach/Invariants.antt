@@ -5,7 +5,7 @@ use Prim.Native.Nat.{◌-◌}
 use Rattle.survey.proofs.reach.reach.Given as goal
 
 abbrev pub invariant-loop : goal.invariant-loop
-invariant-loop l = Flagged (file_wiring l.file.sized.bytes.now) l.flags
+invariant-loop l = Flagged (file_wiring l.file.formed.sized.bytes.now) l.flags
 
 abbrev pub decreases-loop : goal.decreases-loop
 decreases-loop l = 256 - flag-count l.flags

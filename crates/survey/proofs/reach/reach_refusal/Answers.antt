@@ -9,9 +9,9 @@ use Rattle.survey.proofs.reach.reach_refusal.Goals as goal
 pub returns-in-Some : goal.returns-in-Some
 returns-in-Some c =
     let (inside, none, before) = c.in-Some.ensures in
-    unflagged_here _ _ c.reach.ensures _ before (omega (arith, formed_cards _ _ _ c.args.file.formed)) none
+    unflagged_here _ _ c.reach.ensures _ before (omega (arith, formed_cards _ _ _ c.args.file.formed.formed)) none
 
 pub returns-in-None : goal.returns-in-None
 returns-in-None c =
     ap (λ (f : Refusal). f.number)
-    (unflagged_none _ _ c.reach.ensures _ c.in-None.ensures (omega (arith, formed_cards _ _ _ c.args.file.formed)))
+    (unflagged_none _ _ c.reach.ensures _ c.in-None.ensures (omega (arith, formed_cards _ _ _ c.args.file.formed.formed)))
