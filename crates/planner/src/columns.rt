@@ -47,8 +47,7 @@ fn open_link(
     requires { (i < file.formed.sized.links) × ColumnsOpened (file_wiring file.formed.sized.bytes.now) file.formed.sized.cards i words.old k }
     ensures { MatchOption result (file.entry.formed.sized.cards ≤ length (columns_opened (file_wiring file.entry.formed.sized.bytes.now) (i + 1))) (ColumnsOpened (file_wiring file.entry.formed.sized.bytes.now) file.entry.formed.sized.cards (i + 1) words.new) }
 {
-    let p = file.formed.first_end(i);
-    let q = file.formed.second_end(i);
+    let (p, q) = file.formed.ends(i);
     if words_differ(words, p, q) {
         return Some(k);
     }

@@ -37,8 +37,7 @@ fn lower_link(file: FormedFile<'_>, i: usize, bounds: &mut [u8; LENT_HOPS]) -> u
     requires { (i < file.sized.links) × Above (file_wiring file.sized.bytes.now) bounds.old }
     ensures { Passed (file_wiring file.entry.sized.bytes.now) bounds.old bounds.new i (i + 1) result }
 {
-    let p = file.first_end(i);
-    let q = file.second_end(i);
+    let (p, q) = file.ends(i);
     let a = lower_row(bounds, p, q);
     let b = lower_row(bounds, q, p);
     a.max(b)
@@ -133,7 +132,8 @@ pub fn parity_refusal(file: MeasuredFile<'_>) -> Result<(), Refused>
 {
     let formed = file.formed;
     for i in 0..formed.sized.links {
-        if file.between(0, formed.first_end(i)) == file.between(0, formed.second_end(i)) {
+        let (p, q) = formed.ends(i);
+        if file.between(0, p) == file.between(0, q) {
             return Err(Refused::OddLoop(i as u32));
         }
     }

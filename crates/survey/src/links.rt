@@ -46,8 +46,7 @@ fn link_fault(file: SizedFile<'_>, i: usize, marks: &mut [u8; LENT_HOPS]) -> Res
     ensures marks { OnOk result (Marked (file_wiring file.entry.bytes.now) (i + 1) marks.new) }
 {
     let at = i as u32;
-    let p = file.first_end(i);
-    let q = file.second_end(i);
+    let (p, q) = file.ends(i);
     if file.cards <= p || file.cards <= q {
         return Err(Refused::NoEnd(at));
     }

@@ -16,8 +16,7 @@ fn spread_link(file: FormedFile<'_>, i: usize, flags: &mut [u8; LENT_HOPS]) -> u
     requires { (i < file.sized.links) × Flagged (file_wiring file.sized.bytes.now) flags.old }
     ensures { Spread (file_wiring file.entry.sized.bytes.now) flags.old flags.new i (i + 1) result }
 {
-    let p = file.first_end(i);
-    let q = file.second_end(i);
+    let (p, q) = file.ends(i);
     if flags[p] == flags[q] {
         return 0;
     }

@@ -18,18 +18,18 @@ at_link f t r first second = record { formed = f; inside = r.0; hops = t; before
 
 pub returns-then-words_differ : goal.returns-then-words_differ
 returns-then-words_differ c =
-    link_separated (at_link c.args.file.formed.formed c.args.file.measured c.requires c.first_end-p.ensures.is c.second_end-q.ensures.is) (c.words_differ.ensures.differ c.if-words_differ.true)
+    link_separated (at_link c.args.file.formed.formed c.args.file.measured c.requires c.ends-p.ensures.first c.ends-p.ensures.second) (c.words_differ.ensures.differ c.if-words_differ.true)
 
 pub returns-then-file-k : goal.returns-then-file-k
 returns-then-file-k c =
-    link_full (at_link c.args.file.formed.formed c.args.file.measured c.requires c.first_end-p.ensures.is c.second_end-q.ensures.is)
+    link_full (at_link c.args.file.formed.formed c.args.file.measured c.requires c.ends-p.ensures.first c.ends-p.ensures.second)
     (c.words_differ.ensures.same c.if-words_differ.false) c.if-file-k.true
 
 pub add_column-requires : goal.add_column-requires
 add_column-requires c =
-    let free = link_free (at_link c.args.file.formed.formed c.args.file.measured c.requires c.first_end-p.ensures.is c.second_end-q.ensures.is) in search rules
+    let free = link_free (at_link c.args.file.formed.formed c.args.file.measured c.requires c.ends-p.ensures.first c.ends-p.ensures.second) in search rules
 
 pub returns : goal.returns
 returns c =
-    link_added (at_link c.args.file.formed.formed c.args.file.measured c.requires c.first_end-p.ensures.is c.second_end-q.ensures.is)
+    link_added (at_link c.args.file.formed.formed c.args.file.measured c.requires c.ends-p.ensures.first c.ends-p.ensures.second)
     (c.words_differ.ensures.same c.if-words_differ.false) c.if-file-k.false _ c.add_column.ensures

@@ -5,6 +5,5 @@ use Rattle.survey.proofs.hops.lower_link.Goals as goal
 
 pub returns : goal.returns
 returns c =
-    link_passed _ _ _ c.args.file.formed _ _ _ _ _ _ _ _ _ (omega arith) c.requires.1 c.first_end-p.ensures.is
-    c.second_end-q.ensures.is
+    link_passed _ _ _ c.args.file.formed _ _ _ _ _ _ _ _ _ (omega arith) c.requires.1 c.ends-p.ensures.first c.ends-p.ensures.second
     c.lower_row-a.ensures c.lower_row-b.ensures c.max.ensures

@@ -10,19 +10,17 @@ use Rattle.survey.proofs.hops.parity_refusal.Goals as goal
 
 pub returns-then-between : goal.returns-then-between
 returns-then-between c =
-    let p = c.first_end.ensures in
-    let q = c.second_end.ensures in
+    let e = c.ends-p.ensures in
     let f = c.args.file.formed.formed in
-    equal_refusal _ _ _ _ _ _ _ _ f (omega arith) p.is q.is (c.between.ensures.hops f.sizes.some p.card) (c.between-in-loop-i.ensures.hops f.sizes.some q.card)
+    equal_refusal _ _ _ _ _ _ _ _ f (omega arith) e.first e.second (c.between.ensures.hops f.sizes.some e.cards.0) (c.between-in-loop-i.ensures.hops f.sizes.some e.cards.1)
     c.if-between.true c.loop-i.invariant
 
 pub loop-i-preserved : goal.loop-i-preserved
 loop-i-preserved c =
-    let p = c.first_end.ensures in
-    let q = c.second_end.ensures in
+    let e = c.ends-p.ensures in
     let f = c.args.file.formed.formed in
     below_more (Uneven (file_wiring c.args.file.formed.sized.bytes.now)) c.loop-i.i c.loop-i.invariant
-    (unequal_uneven _ _ _ _ _ _ _ _ f (omega arith) p.is q.is (c.between.ensures.hops f.sizes.some p.card) (c.between-in-loop-i.ensures.hops f.sizes.some q.card)
+    (unequal_uneven _ _ _ _ _ _ _ _ f (omega arith) e.first e.second (c.between.ensures.hops f.sizes.some e.cards.0) (c.between-in-loop-i.ensures.hops f.sizes.some e.cards.1)
     c.if-between.false)
 
 pub returns : goal.returns

@@ -14,33 +14,31 @@ returns-then-file-p-clause-refuses c =
     let f = cards_are _ _ _ c.args.file.sizes in
     ap (λ (x : ℕ). refusal x c.args.i)
     (⊎_elim
-    (λ z. fault_first _ _ _ _ c.first_end-p.ensures.is c.second_end-q.ensures.is (omega arith))
-    (λ z. fault_second _ _ _ _ c.first_end-p.ensures.is c.second_end-q.ensures.is (omega arith)) c.then-file-p.either)
+    (λ z. fault_first _ _ _ _ c.ends-p.ensures.first c.ends-p.ensures.second (omega arith))
+    (λ z. fault_second _ _ _ _ c.ends-p.ensures.first c.ends-p.ensures.second (omega arith)) c.then-file-p.either)
 
 pub returns-then-p-q-clause-refuses : goal.returns-then-p-q-clause-refuses
 returns-then-p-q-clause-refuses c =
     let f = cards_are _ _ _ c.args.file.sizes in
     ap (λ (x : ℕ). refusal x c.args.i)
-    (fault_same_card _ _ _ _ c.first_end-p.ensures.is c.second_end-q.ensures.is (omega arith) (omega arith) c.if-p-q.true)
+    (fault_same_card _ _ _ _ c.ends-p.ensures.first c.ends-p.ensures.second (omega arith) (omega arith) c.if-p-q.true)
 
 pub returns-then-earlier-ge-MOST_PARALLEL-clause-refuses : goal.returns-then-earlier-ge-MOST_PARALLEL-clause-refuses
 returns-then-earlier-ge-MOST_PARALLEL-clause-refuses c =
     let f = cards_are _ _ _ c.args.file.sizes in
-    let p = c.first_end-p in
-    let q = c.second_end-q in
-    let mark = c.requires.1.is p.result q.result (omega (arith, c.args.file.sizes.few)) (omega (arith, c.args.file.sizes.few)) c.if-p-q.false in
+    let e = c.ends-p in
+    let mark = c.requires.1.is e.result.0 e.result.1 (omega (arith, c.args.file.sizes.few)) (omega (arith, c.args.file.sizes.few)) c.if-p-q.false in
     ap (λ (x : ℕ). refusal x c.args.i)
-    (fault_parallel _ _ _ _ p.ensures.is q.ensures.is (omega arith) (omega arith) c.if-p-q.false (omega arith))
+    (fault_parallel _ _ _ _ e.ensures.first e.ensures.second (omega arith) (omega arith) c.if-p-q.false (omega arith))
 
 pub returns-clause-refuses : goal.returns-clause-refuses
 returns-clause-refuses c =
     let f = cards_are _ _ _ c.args.file.sizes in
-    let p = c.first_end-p in
-    let q = c.second_end-q in
-    let mark = c.requires.1.is p.result q.result (omega (arith, c.args.file.sizes.few)) (omega (arith, c.args.file.sizes.few)) c.if-p-q.false in
-    fault_none _ _ _ _ p.ensures.is q.ensures.is (omega arith) (omega arith) c.if-p-q.false (omega arith)
+    let e = c.ends-p in
+    let mark = c.requires.1.is e.result.0 e.result.1 (omega (arith, c.args.file.sizes.few)) (omega (arith, c.args.file.sizes.few)) c.if-p-q.false in
+    fault_none _ _ _ _ e.ensures.first e.ensures.second (omega arith) (omega arith) c.if-p-q.false (omega arith)
 
 pub returns-clause-marks : goal.returns-clause-marks
 returns-clause-marks c =
-    more_marked _ _ (omega (arith, links_are _ _ _ c.args.file.sizes)) _ _ _ c.first_end-p.ensures.is c.second_end-q.ensures.is
+    more_marked _ _ (omega (arith, links_are _ _ _ c.args.file.sizes)) _ _ _ c.ends-p.ensures.first c.ends-p.ensures.second
     (omega (arith, c.args.file.sizes.few)) (omega (arith, c.args.file.sizes.few)) c.if-p-q.false c.requires.1
