@@ -22,7 +22,7 @@ ghost use Rattle.planner.specs.Planning.{AddressesFound, Asked, AskedToWrite, Pl
 use columns::open_columns;
 use counting::ones::ones_table;
 use link_order::put_link_order;
-use pairs::{pairs_measure, words_used};
+use pairs::{CountedWords, words_used};
 use plan_writer::put_plan;
 use rack::limits::{LENT_HOPS, LENT_PLAN, LENT_WORDS, MOST_LINKS};
 use rack::refused::Refused;
@@ -41,14 +41,17 @@ fn address_cards(file: ConnectedFile<'_>, words: &mut [u64; LENT_WORDS]) -> Opti
     ensures { MatchOption result (Embedding (file_wiring file.entry.measured.formed.sized.bytes.now) (column_count (file_wiring file.entry.measured.formed.sized.bytes.now)) (address (file_wiring file.entry.measured.formed.sized.bytes.now)) → ⊥) (Addressed (file_wiring file.entry.measured.formed.sized.bytes.now) words.new) }
 {
     let measured = file.measured;
-    let cards = measured.formed.sized.cards;
     let k = open_columns(measured, words)?;
     let ones = ones_table();
-    if pairs_measure(&ones, words, words_used(k), measured.hops, cards) {
-        Some(k)
-    } else {
-        None
-    }
+    // lent once more, to be read alone: the check of borrows asks for it before both stand in one struct
+    let words: &[u64; LENT_WORDS] = words;
+    let counted = CountedWords {
+        ones: &ones,
+        words,
+        used: words_used(k),
+    };
+    let cards = measured.formed.sized.cards;
+    counted.pairs_measure(measured.hops, cards).then_some(k)
 }
 
 // The columns of a connected rack with its hops, whose addresses are put in the words, or 10 or 11.

@@ -4,10 +4,10 @@ use mathlib.Core.Bool.{true}
 use Prim.Native.Nat.{ℕ, ◌<◌}
 use Rattle.survey.specs.Tables.{cell}
 use Rattle.planner.specs.OpenColumns.{words_hamming, PairsMeasure}
-use Rattle.planner.proofs.pairs.pairs_measure.Given as goal
+use Rattle.planner.proofs.pairs.CountedWords.pairs_measure.Given as goal
 
 abbrev pub invariant-loop-b : goal.invariant-loop-b
-invariant-loop-b l = (l.measured ≡ true) × ((x : ℕ) → x < l.b → words_hamming l.words l.a x ≡ cell l.hops l.a x)
+invariant-loop-b l = (l.measured ≡ true) × ((x : ℕ) → x < l.b → words_hamming l.self.words.now l.a x ≡ cell l.hops l.a x)
 
 abbrev pub invariant-pairs : goal.invariant-pairs
-invariant-pairs l = (l.measured ≡ true) × PairsMeasure l.words l.hops l.a
+invariant-pairs l = (l.measured ≡ true) × PairsMeasure l.self.words.now l.hops l.a
