@@ -5,7 +5,7 @@ use mathlib.Core.List.{List, []}
 use Prim.Native.Nat.{ℕ, ◌≤◌, ◌<◌}
 use native.Mathlib.Omega.{arith}
 use Rattle.std.specs.Prelude.{Ok, Err}
-use lib.ListN.{length, replicate}
+use lib.ListN.{length}
 use borrow.Author.Tests.{eq-eqb, ne_eqb}
 use Rattle.rack.specs.Limits.{most_columns}
 use Rattle.rack.specs.Wiring.{Wiring, link_count}
@@ -23,7 +23,7 @@ use Rattle.planner.specs.OpenColumns.{bit_in, WordsOf}
 use Rattle.rack.specs.Words.{word_bit}
 use Rattle.planner.specs.Answer.{answer_of}
 use Rattle.planner.proofs.AddressWords.{word_bit_column}
-use Rattle.rack.proofs.Appending.{written_none}
+use Rattle.rack.proofs.Putting.{grown_written, grown_long}
 use Rattle.planner.proofs.PlanAnswer.{left_untouched, left_filled}
 use Rattle.listing_text.specs.Listing.{listing, column_digit, address_text, card_line, rack_lines, rack_text, refused_text}
 use Rattle.listing_text.specs.Listing.{lent_text, listing_refusal, ListingSays}
@@ -71,16 +71,16 @@ module _ (bs : List ℕ) (k : ℕ) (ws : List ℕ) (p : Planned bs (answer_of (O
       rw (eq-eqb (file_refusal bs).number 0 accepted, en, em, ← (wiring_at_cards 4 bs), ← (wiring_at_count 4 bs), p.1.value refl)
       (rack_lines_words (file_wiring bs) ws (p.1.words refl) (accepted_sizes bs accepted).columns)
 
--- THE TEXT that grew by the listing, in a buffer that was made zero
+-- THE TEXT that grew by the listing from its start on
 module _ (bs : List ℕ) (a b : Output) (g : Grows a b (listing bs)) (start : a.length ≡ 0) where
   pub listed_length : b.length ≡ length (listing bs)
-  listed_length = omega (arith, g.puts.place)
+  listed_length = grown_long start g
 
   pub listed_inside : b.length ≤ lent_text
   listed_inside = omega (arith, listed_length, listing_fits bs)
 
-  pub listed_text : (n : ℕ) → a.bytes.now ≡ replicate n 0 → Written b.bytes.now (listing bs)
-  listed_text n e = g.puts.adds [] (sym start) (rw e (written_none n))
+  pub listed_text : Written a.bytes.now [] → Written b.bytes.now (listing bs)
+  listed_text w = grown_written start w g
 
 -- WHAT THE CALL SAYS
 pub listing_says_one : (bs text : List ℕ) → length text ≢ lent_text → ListingSays bs (record { number = 1; at = 0; value = 0 }) text text

@@ -49,14 +49,10 @@ pub fn put_listing_text(file: &[u8], text: &mut [u8; LENT_TEXT]) -> u32
     ensures length { result ≡ length (listing file.now) }
     ensures text { Written text.new (listing file.now) }
 {
-    text.fill(0);
     let mut words = [0u64; LENT_WORDS];
     let mut hops = [0u8; LENT_HOPS];
     let plan = plan_file(file, &mut words, &mut hops);
-    let mut lines = Text {
-        bytes: text,
-        length: 0,
-    };
+    let mut lines = Text::new(text);
     put_listing(&mut lines, file, plan, &words);
     lines.length as u32
 }

@@ -2,8 +2,8 @@
 // copied, and a card more has the address of the card that it hangs on with one bit more. Nothing is planned again.
 #![tactic(auto)]
 
-ghost use Rattle.std.specs.Prelude.{◌≡◌, ◌<◌, length, replicate};
-ghost use Rattle.rack.specs.Limits.{lent_plan, most_cards, most_columns, most_links};
+ghost use Rattle.std.specs.Prelude.{◌≡◌, ◌<◌, length};
+ghost use Rattle.rack.specs.Limits.{most_cards, most_columns, most_links};
 ghost use Rattle.rack.specs.Buffers.{Written};
 ghost use Rattle.rack.specs.PlanFile.{plan_wiring};
 ghost use Rattle.pendant.specs.Pendant.{last_hangs};
@@ -19,19 +19,16 @@ use rack::plan_file::address_size;
 use rack::refused::Refused;
 use rack::views::Plan;
 
-// Writes the plan with a card more on a new last link from `card` into a buffer that is zero at entry; gives its length.
+// Writes the plan with a card more on a new last link from `card`; gives its length.
 fn put_more(plan: Plan<'_>, card: usize, output: &mut [u8; LENT_PLAN]) -> usize
-    requires { (plan.cards < most_cards) × (plan.links < most_links) × (plan.columns < most_columns) × (card < plan.cards) × (output.old ≡ replicate lent_plan 0) }
+    requires { (plan.cards < most_cards) × (plan.links < most_links) × (plan.columns < most_columns) × (card < plan.cards) }
     ensures bytes { Written output.new (more_bytes plan.entry.bytes.now card) }
     ensures long { result ≡ length (more_bytes plan.entry.bytes.now card) }
 {
     let n = plan.cards;
     let m = plan.links;
     let k = plan.columns;
-    let mut written = Output {
-        bytes: output,
-        length: 0,
-    };
+    let mut written = Output::new(output);
     put_sizes(&mut written, n + 1, m + 1, k + 1);
     put_more_ends(plan.bytes, m, card, n, &mut written);
     put_rows(plan, n, address_size(k + 1), &mut written);
@@ -39,19 +36,16 @@ fn put_more(plan: Plan<'_>, card: usize, output: &mut [u8; LENT_PLAN]) -> usize
     written.length
 }
 
-// Writes the plan without its last card, last link and last column into a buffer that is zero at entry; gives its length.
+// Writes the plan without its last card, last link and last column; gives its length.
 fn put_fewer(plan: Plan<'_>, output: &mut [u8; LENT_PLAN]) -> usize
-    requires { (0 < plan.links) × (0 < plan.columns) × (output.old ≡ replicate lent_plan 0) }
+    requires { (0 < plan.links) × (0 < plan.columns) }
     ensures bytes { Written output.new (fewer_bytes plan.entry.bytes.now) }
     ensures long { result ≡ length (fewer_bytes plan.entry.bytes.now) }
 {
     let n = plan.cards - 1;
     let m = plan.links - 1;
     let k = plan.columns - 1;
-    let mut written = Output {
-        bytes: output,
-        length: 0,
-    };
+    let mut written = Output::new(output);
     put_sizes(&mut written, n, m, k);
     put_fewer_ends(plan.bytes, plan.links, m, &mut written);
     put_rows(plan, n, address_size(k), &mut written);
@@ -70,7 +64,6 @@ pub fn add_sized(plan: Plan<'_>, card: u32, output: &mut [u8; LENT_PLAN]) -> Res
     if plan.cards == MOST_CARDS || plan.links == MOST_LINKS {
         return Err(Refused::Largest);
     }
-    output.fill(0);
     Ok(put_more(plan, c, output))
 }
 
@@ -82,6 +75,5 @@ pub fn take_off_sized(plan: Plan<'_>, output: &mut [u8; LENT_PLAN]) -> Result<us
     if !last_hangs(plan) {
         return Err(Refused::NotLast);
     }
-    output.fill(0);
     Ok(put_fewer(plan, output))
 }

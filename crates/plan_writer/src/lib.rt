@@ -1,8 +1,8 @@
-// The plan's bytes, written into a lent buffer that is zero at entry: sizes, ends of the links, addresses.
+// The plan's bytes, written into a lent buffer: sizes, ends of the links, addresses.
 #![tactic(auto)]
 
-ghost use Rattle.std.specs.Prelude.{◌≡◌, ◌+◌, ◌*◌, ◌<◌, ◌≤◌, ◌++◌, length, replicate};
-ghost use Rattle.rack.specs.Limits.{lent_plan, most_cards, most_columns};
+ghost use Rattle.std.specs.Prelude.{◌≡◌, ◌+◌, ◌*◌, ◌<◌, ◌≤◌, ◌++◌, length};
+ghost use Rattle.rack.specs.Limits.{most_cards, most_columns};
 ghost use Rattle.rack.specs.Lists.{tabulate, blocks};
 ghost use Rattle.rack.specs.Buffers.{two_bytes, Written};
 ghost use Rattle.rack.specs.Putting.{Grows};
@@ -69,14 +69,11 @@ pub fn put_plan(
     words: &[u64; LENT_WORDS],
     output: &mut [u8; LENT_PLAN],
 ) -> usize
-    requires { (k ≤ most_columns) × (output.old ≡ replicate lent_plan 0) }
+    requires { k ≤ most_columns }
     ensures bytes { Written output.new (written_bytes file.entry.bytes.now words.now k) }
     ensures long { result ≡ length (written_bytes file.entry.bytes.now words.now k) }
 {
-    let mut written = Output {
-        bytes: output,
-        length: 0,
-    };
+    let mut written = Output::new(output);
     put_sizes(&mut written, file.cards, file.links, k);
     put_ends(file, &mut written);
     put_addresses(words, file.cards, address_size(k), &mut written);

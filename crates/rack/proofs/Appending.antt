@@ -1,30 +1,14 @@
--- A buffer written from its start on: one byte more, a part at once, one block after another. Assumes nothing.
+-- A buffer written from its start on: a part at once, one block after another. Assumes nothing.
 use mathlib.Core.Path.{◌≡◌, refl, sym, ap, ap₂, ◌∙◌}
-use mathlib.Core.List.{List, [], ◌∷◌, ◌++◌, append_assoc, append-nil}
-use Prim.Native.Nat.{ℕ, suc, ◌+◌, ◌*◌, ◌-◌, ◌<◌, ◌≤◌}
+use mathlib.Core.List.{List, [], ◌++◌, append_assoc, append-nil}
+use Prim.Native.Nat.{ℕ, ◌+◌, ◌*◌, ◌-◌, ◌≤◌}
 use native.Mathlib.Omega.{arith}
 use borrow.Rule.Slice.PartMut.{put_mid}
-use lib.ListN.{length, set, take, drop, replicate, length-append, length-replicate, length-set}
+use lib.ListN.{length, take, drop, replicate, length-append, length-replicate}
 use Rattle.std.proofs.lemmas.List.{take_at, drop_at, drop-replicate}
-use lib.Seq.{set_at, append_snoc}
 use Rattle.rack.specs.Lists.{blocks}
 use Rattle.rack.specs.Buffers.{two_bytes, four_bytes, Written, Appends}
 use Rattle.rack.proofs.Tables.{length_blocks, blocks_snoc}
-
--- ONE BYTE more
-pub written_more : (out xs : List ℕ) (at b : ℕ) → length xs ≡ at → at < length out → Written out xs → Written (set out at b) (xs ++ (b ∷ []))
-written_more out xs at b e h w =
-    let s = length out - length xs - 1 in
-    let g : length out - length xs ≡ suc s = omega arith in
-    let l : length (set out at b) - length (xs ++ (b ∷ [])) ≡ s = simp (length-append, length-set) (omega arith) in
-    record {
-      within = simp (length-append, length-set) (omega arith);
-      is =
-          ap (λ (o : List ℕ). set o at b) (w.is ∙ ap (λ (k : ℕ). xs ++ replicate k 0) g)
-          ∙ set_at xs 0 (replicate s 0) b at e
-          ∙ sym (append_snoc xs b (replicate s 0))
-          ∙ ap (λ (k : ℕ). xs ++ (b ∷ []) ++ replicate k 0) (sym l);
-    }
 
 -- NOTHING yet, in a buffer of zeros; and one list after another
 pub written_none : (n : ℕ) → Written (replicate n 0) []

@@ -7,7 +7,7 @@ use borrow.Rule.Slice.PartMut.{put_mid}
 use lib.ListN.{length, take, drop, replicate, length-append, length-replicate, replicate-append-replicate}
 use Rattle.std.proofs.lemmas.List.{length-drop, length-take-le}
 use Rattle.rack.specs.Buffers.{Written, Appends}
-use Rattle.rack.proofs.Appending.{appended_none, appends_then, written_none}
+use Rattle.rack.proofs.Appending.{appended_none, appends_then}
 use Rattle.rack.specs.declared.output.Output.{Output}
 use Rattle.rack.specs.Putting.{Puts, Grows}
 
@@ -63,9 +63,9 @@ written_zeros out xs z r e w =
 pub appends_zeros : (at z : ℕ) (old : List ℕ) → at + z ≤ length old → Appends at old old (replicate z 0)
 appends_zeros at z old h xs e w = written_zeros old xs z (length old - (at + z)) (omega arith) w
 
--- FROM ITS START: what stands in a buffer of zeros, and how much of it
-pub grown_written : {a b : Output} {ys : List ℕ} (n : ℕ) → a.length ≡ 0 → a.bytes.now ≡ replicate n 0 → Grows a b ys → Written b.bytes.now ys
-grown_written n z e p = p.puts.adds [] (sym z) (rw e (written_none n))
+-- FROM ITS START: what stands in a buffer of which nothing was written, and how much of it
+pub grown_written : {a b : Output} {ys : List ℕ} → a.length ≡ 0 → Written a.bytes.now [] → Grows a b ys → Written b.bytes.now ys
+grown_written z w p = p.puts.adds [] (sym z) w
 
 pub grown_long : {a b : Output} {ys : List ℕ} → a.length ≡ 0 → Grows a b ys → b.length ≡ length ys
 grown_long z p = omega (arith, z, p.puts.place)

@@ -1,6 +1,6 @@
 // Bytes and numbers, appended to a lent buffer where what is written of it ends.
 ghost use Rattle.std.specs.Prelude.{◌≡◌, [], ◌∷◌, ◌+◌, ◌<◌, ◌≤◌, length, replicate};
-ghost use Rattle.rack.specs.Buffers.{two_bytes};
+ghost use Rattle.rack.specs.Buffers.{two_bytes, Written};
 ghost use Rattle.rack.specs.Putting.{Grows};
 
 use crate::bytes::put_number;
@@ -13,6 +13,17 @@ pub struct Output<'a> {
 }
 
 impl<'a> Output<'a> {
+    // Nothing is written of the buffer yet, which is filled with zeros.
+    pub fn new(bytes: &'a mut [u8]) -> Self
+        ensures same { result.bytes.ghost_name ≡ bytes.entry.ghost_name }
+        ensures room { length result.bytes.now ≡ length bytes.old }
+        ensures start { result.length ≡ 0 }
+        ensures zeros { Written result.bytes.now [] }
+    {
+        bytes.fill(0);
+        Output { bytes, length: 0 }
+    }
+
     // Appends a byte.
     pub fn put_byte(&mut self, b: u8)
         requires { self.old.length < length self.old.bytes.now }

@@ -1,15 +1,14 @@
 -- The wiring file inside a plan: cut out of the plan's bytes, it holds the plan's wiring. Assumes nothing.
 use mathlib.Core.Path.{◌≡◌, refl, sym, ap, ap₂, ◌∙◌}
-use mathlib.Core.List.{List, ◌++◌}
+use mathlib.Core.List.{List, [], ◌++◌}
 use Prim.Native.Nat.{ℕ, suc, ◌+◌, ◌*◌, ◌-◌, ◌≤◌, ◌<◌}
 use native.Mathlib.Nat.{sub-zero}
 use native.Mathlib.Omega.{arith}
 use lib.ListN.{length, get_or, take, drop, replicate, length-append}
 use lib.Seq.{get_or-take, get_or-drop, take_at}
-use Rattle.rack.specs.Limits.{most_links}
 use Rattle.rack.specs.Wiring.{link, wiring}
 use Rattle.rack.specs.Refusals.{refusal, links_refusal, wiring_refusal}
-use Rattle.rack.specs.Buffers.{number_at}
+use Rattle.rack.specs.Buffers.{number_at, Written}
 use Rattle.rack.specs.WiringFile.{wiring_at, file_wiring, sizes_fault, form_refusal, file_refusal}
 use Rattle.rack.proofs.Tables.{tabulate_ext}
 use Rattle.rack.proofs.Refusals.{or_else_second}
@@ -78,12 +77,12 @@ module _ (ps : List ℕ) (z : Layout ps) where
   unfolding file_refusal form_refusal wiring_refusal
   inner_refusal = rw (or_else_second (refusal (sizes_fault (inner_file ps)) 0) (links_refusal (file_wiring (inner_file ps))) inner_sizes, inner_wiring) refl
 
--- copied into a buffer of zeros, piece after piece
-pub inner_copied : (ps : List ℕ) (ends : ℕ) {a b c : Output} → 6 + ends ≤ length ps → a.length ≡ 0 → a.bytes.now ≡ replicate (4 + 4 * most_links) 0
+-- copied into a buffer of which nothing was written, piece after piece
+pub inner_copied : (ps : List ℕ) (ends : ℕ) {a b c : Output} → 6 + ends ≤ length ps → a.length ≡ 0 → Written a.bytes.now []
     → Grows a b (take 4 (drop 0 ps)) → Grows b c (take ends (drop 6 ps)) → take (4 + ends) c.bytes.now ≡ take 4 (drop 0 ps) ++ take ends (drop 6 ps)
 inner_copied ps ends {c = c} h z e p q =
     let is = take 4 (drop 0 ps) ++ take ends (drop 6 ps) in
-    let w = grown_written (4 + 4 * most_links) z e (grows_then p q) in
+    let w = grown_written z e (grows_then p q) in
     ap (take (4 + ends)) w.is
     ∙ take_at is (replicate (length c.bytes.now - length is) 0) (4 + ends)
     (simp length-append (omega (arith, length_part 0 4 ps (omega arith), length_part 6 ends ps (omega arith))))

@@ -1,6 +1,5 @@
 // Reading a plan: refusal 13, by comparison with the plan that the planner writes for the wiring inside; and a card's address.
-ghost use Rattle.std.specs.Prelude.{◌≡◌, ◌+◌, ◌*◌, ◌≤◌, ◌↔◌, ◌++◌, length, take, drop, replicate, slice_index, EachIndex, IfOk, IsTrue};
-ghost use Rattle.rack.specs.Limits.{most_links};
+ghost use Rattle.std.specs.Prelude.{◌≡◌, ◌+◌, ◌*◌, ◌≤◌, ◌↔◌, ◌++◌, length, take, drop, slice_index, EachIndex, IfOk, IsTrue};
 ghost use Rattle.reader.specs.Plan.{content_holds};
 ghost use Rattle.reader.specs.ReadPlans.{plan_of};
 ghost use Rattle.reader.specs.Reading.{AddressSays, PartIs, ReadSays, address_refusal, card_refusal, sizes_of};
@@ -22,15 +21,11 @@ fn begins_with(written: &[u8], plan: &[u8]) -> bool
     written.iter().zip(plan).all(|(x, y)| x == y)
 }
 
-// The wiring file inside a plan: its first 4 bytes, and the ends of its links from byte 6 on. The buffer is zero at entry.
+// The wiring file inside a plan: its first 4 bytes, and the ends of its links from byte 6 on.
 fn inner_file(plan: Plan<'_>, file: &mut [u8; 4 + 4 * MOST_LINKS])
-    requires { file.old ≡ replicate (4 + 4 * most_links) 0 }
     ensures { take (4 + 4 * plan.entry.links) file.new ≡ take 4 (drop 0 plan.entry.bytes.now) ++ take (4 * plan.entry.links) (drop 6 plan.entry.bytes.now) }
 {
-    let mut written = Output {
-        bytes: file,
-        length: 0,
-    };
+    let mut written = Output::new(file);
     written.put_bytes(&plan.bytes[0..4]);
     written.put_bytes(&plan.bytes[6..6 + 4 * plan.links]);
 }

@@ -24,7 +24,6 @@ fn guessed_plan(file: SizedFile<'_>, last: bool, output: &mut [u8; LENT_PLAN]) -
 {
     let mut words = [0u64; LENT_WORDS];
     let k = guess_columns(file, last, &mut words)?;
-    output.fill(0);
     let length = put_plan(file, k, &words, output);
     read_plan(&output[0..length]).ok()?;
     Some(length)

@@ -1,5 +1,5 @@
 -- A refusal comes before the lent bytes are cleared; else the plan with a card more is left. Assumes nothing.
-use Rattle.std.proofs.Common.{ℕ, inl, inr, ⊎_elim, refl, ap, ◌∙◌, replicate, arith}
+use Rattle.std.proofs.Common.{inl, inr, ⊎_elim, refl, arith}
 use Rattle.rack.specs.declared.refused.Refused.TheVariants.{NoCard, Largest}
 use Rattle.plan_changer.proofs.Refused.{card_outside, full_refused, card_fits}
 use Rattle.plan_changer.proofs.Answers.{plan_refused, plan_left}
@@ -17,7 +17,7 @@ returns-then-plan-eq-MOST_CARDS c =
 pub put_more-requires : goal.put_more-requires
 put_more-requires c =
     let z = c.args.plan.sized in
-    (omega (arith, z.few), omega (arith, z.few_links), omega (arith, z.few, c.requires.few), omega arith, c.fill.ensures.after (λ y e. e) ∙ ap (λ (i : ℕ). replicate i 0) c.told-output)
+    (omega (arith, z.few), omega (arith, z.few_links), omega (arith, z.few, c.requires.few), omega arith)
 
 pub returns : goal.returns
 returns c =

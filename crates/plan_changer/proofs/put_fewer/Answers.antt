@@ -1,6 +1,5 @@
 -- Sizes, ends and addresses are appended in this order, and fit. Assumes nothing.
-use Rattle.std.proofs.Common.{arith, ◌-◌, refl}
-use Rattle.rack.specs.Limits.{lent_plan}
+use Rattle.std.proofs.Common.{arith, ◌-◌}
 use Rattle.rack.proofs.Putting.{grown_written, grown_long}
 use Rattle.plan_writer.proofs.WrittenPlan.{addresses_room, length_head}
 use Rattle.plan_changer.proofs.ChangedBytes.{links_in, length_ends_less, fewer_grown}
@@ -41,4 +40,4 @@ pub returns : goal.returns
 returns c =
     let size = c.address_size in
     let p = fewer_grown _ c.args.plan.sized size.result size.ensures.is c.put_sizes.ensures c.put_fewer_ends.ensures c.put_rows.ensures in
-    record { bytes = grown_written lent_plan refl c.requires.2 p; long = grown_long refl p }
+    record { bytes = grown_written c.new-written.ensures.start c.new-written.ensures.zeros p; long = grown_long c.new-written.ensures.start p }

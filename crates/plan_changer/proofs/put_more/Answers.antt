@@ -1,6 +1,5 @@
 -- Sizes, ends, the old addresses and the new one are appended in this order, and fit. Assumes nothing.
-use Rattle.std.proofs.Common.{arith, ◌+◌, refl}
-use Rattle.rack.specs.Limits.{lent_plan}
+use Rattle.std.proofs.Common.{arith, ◌+◌}
 use Rattle.rack.proofs.Putting.{grown_written, grown_long}
 use Rattle.plan_writer.proofs.WrittenPlan.{length_head}
 use Rattle.plan_changer.proofs.ChangedBytes.{links_in, more_room, size_more, length_ends_more, length_rows, more_grown}
@@ -65,4 +64,4 @@ returns c =
     let size = c.address_size in
     let p = more_grown _ c.args.plan.sized c.args.card size.result size.ensures.is c.put_sizes.ensures c.put_more_ends.ensures c.put_rows.ensures
     c.put_row_with_one.ensures in
-    record { bytes = grown_written lent_plan refl c.requires.4 p; long = grown_long refl p }
+    record { bytes = grown_written c.new-written.ensures.start c.new-written.ensures.zeros p; long = grown_long c.new-written.ensures.start p }

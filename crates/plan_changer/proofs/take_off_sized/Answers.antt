@@ -1,5 +1,5 @@
 -- A refusal comes before the lent bytes are cleared; else the plan with a card less is left. Assumes nothing.
-use Rattle.std.proofs.Common.{ℕ, sym, ap, ◌∙◌, refl, replicate, arith}
+use Rattle.std.proofs.Common.{sym, ◌∙◌, refl, arith}
 use Rattle.rack.specs.declared.refused.Refused.TheVariants.{NotLast}
 use Rattle.plan_parts.proofs.Searching.{hangs_linked}
 use Rattle.plan_changer.proofs.Refused.{not_hanging_refused, hanging_clear}
@@ -15,7 +15,7 @@ returns-then-not-last_hangs c =
 pub put_fewer-requires : goal.put_fewer-requires
 put_fewer-requires c =
     let linked = hangs_linked _ c.args.plan.sized (sym c.last_hangs.ensures ∙ c.if-not-last_hangs.false) in
-    (linked, c.requires.crossed linked, c.fill.ensures.after (λ y e. e) ∙ ap (λ (i : ℕ). replicate i 0) c.told-output)
+    (linked, c.requires.crossed linked)
 
 pub returns : goal.returns
 returns c =

@@ -1,8 +1,6 @@
 -- Sizes, ends and addresses are appended in this order, and fit. Assumes nothing.
-use mathlib.Core.Path.{refl}
 use Prim.Native.Nat.{◌*◌}
 use native.Mathlib.Omega.{arith}
-use Rattle.rack.specs.Limits.{lent_plan}
 use Rattle.rack.proofs.Putting.{grown_written, grown_long}
 use Rattle.plan_writer.proofs.WrittenPlan.{addresses_room, length_head, length_pairs, plan_grown}
 use Rattle.plan_writer.proofs.put_plan.Goals as goal
@@ -41,4 +39,4 @@ returns c =
     let z = c.args in
     let p = plan_grown z.file.bytes.now z.words.now z.file.cards z.file.links z.k z.file.sizes _ c.address_size.ensures.is c.put_sizes.ensures
     c.put_ends.ensures c.put_addresses.ensures in
-    record { bytes = grown_written lent_plan refl c.requires.1 p; long = grown_long refl p }
+    record { bytes = grown_written c.new-written.ensures.start c.new-written.ensures.zeros p; long = grown_long c.new-written.ensures.start p }

@@ -36,11 +36,7 @@ returns-in_err-k c =
     rw (p.1, p.2) (record { says = says; found = λ a. plan_found _ _ _ _ a says })
 
 pub put_plan-requires : goal.put_plan-requires
-put_plan-requires c =
-    let out = c.in-Some.ensures.cases in (
-      columns_few _ _ _ _ c.in_ok-k.ensures,
-      c.fill.ensures.after (λ y e. e) ∙ ap (λ (n : ℕ). replicate n 0) (ap length out.same ∙ out.long),
-    )
+put_plan-requires c = columns_few _ _ _ _ c.in_ok-k.ensures
 
 pub returns : goal.returns
 returns c =

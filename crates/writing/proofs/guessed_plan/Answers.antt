@@ -1,13 +1,10 @@
 -- A plan that is read is the planner's. Assumes nothing.
-use mathlib.Core.Path.{ap, ◌∙◌}
-use Prim.Native.Nat.{ℕ}
-use lib.ListN.{replicate}
 use Rattle.planner.proofs.RackPlanned.{sizes_clear}
 use Rattle.writing.proofs.GuessedPlans.{guess_read, read_clear}
 use Rattle.writing.proofs.guessed_plan.Goals as goal
 
 pub put_plan-length-requires : goal.put_plan-length-requires
-put_plan-length-requires c = (c.in_ok-k.ensures, c.fill.ensures.after (λ y e. e) ∙ ap (λ (k : ℕ). replicate k 0) c.told-output)
+put_plan-length-requires c = c.in_ok-k.ensures
 
 pub returns : goal.returns
 returns c =
