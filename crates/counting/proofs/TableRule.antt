@@ -4,19 +4,17 @@ use mathlib.Core.Bool.{Bool, true}
 use mathlib.Core.List.{List}
 use Prim.Native.Nat.{ℕ, zero, suc, ◌+◌, ◌*◌, ◌/◌, ◌%◌, ◌^◌, ◌≤◌, ◌<◌}
 use Rattle.std.specs.Int.{w64, to_le_bytes}
-use native.Mathlib.Nat.{pow-succ'}
 use native.Mathlib.Omega.{arith}
 use lib.Bits.{bit_xor, xor_lt, xor_mod, xor_shr}
 use lib.Dec.{eqb}
 use lib.ListN.{get_or}
-use lib.Pow.{pow-add}
 use borrow.Author.Tests.{eqb-true, eq-eqb}
 use Rattle.rack.specs.Lists.{differ, count, range}
 use Rattle.rack.specs.Bits.{number_bit}
 use Rattle.rack.specs.Columns.{hamming}
 use Rattle.rack.proofs.Lists.{all_in, in_all, count_ext, count_le_length}
 use Rattle.rack.proofs.Tables.{length_tabulate, in_range, range_in, count_range_add}
-use Rattle.rack.proofs.Bits.{le_byte, number_bit_high, number_bit_low}
+use Rattle.rack.proofs.Bits.{byte_weight, le_byte, number_bit_high, number_bit_low}
 use Rattle.counting.specs.Ones.{ones_in, Counts, table_holds}
 
 -- THE BITS of an exclusive or
@@ -50,12 +48,6 @@ ones_byte z n =
     (λ i m. sym (number_bit_low (z / 2 ^ n) 8 i (range_in 8 i m) ∙ number_bit_high z n i)))
 
 -- and that byte, among the eight of a word
-byte_weight : (i : ℕ) → 256 ^ i ≡ 2 ^ (8 * i)
-byte_weight zero = refl
-byte_weight (suc i) =
-    let e : 8 * suc i ≡ 8 + 8 * i = omega arith in
-    rw (e, pow-add 2 8 (8 * i), ← (byte_weight i)) (pow-succ' 256 i)
-
 pub ones_le_byte : (z i : ℕ) → i < 8 → ones_in (8 * (i + 1)) z ≡ ones_in (8 * i) z + ones_in 8 (get_or (to_le_bytes w64 z) i 0)
 ones_le_byte z i h =
     let e : 8 * (i + 1) ≡ 8 * i + 8 = omega arith in

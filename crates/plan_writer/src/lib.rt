@@ -39,7 +39,7 @@ fn address_byte(words: &[u64; LENT_WORDS], c: usize, t: usize) -> u8
     requires { (c < most_cards) × (t < 32) }
     ensures { result ≡ word_byte words.now c t }
 {
-    ((words[4 * c + t / 8] >> (8 * (t % 8))) % 256) as u8
+    words[4 * c + t / 8].to_le_bytes()[t % 8]
 }
 
 // Appends the first `size` bytes of the words of card `c`.

@@ -8,7 +8,7 @@ use native.Mathlib.Nat.{div-div-eq-div-mul, mul-one, mul_left_comm, pow-succ'}
 use native.Mathlib.Omega.{arith}
 use lib.Dec.{eqb}
 use lib.ListN.{get_or}
-use lib.Pow.{field, mod-mod-pow, mod-pow-add, pow_pos, shl_exact, shr-shr}
+use lib.Pow.{field, mod-mod-pow, mod-pow-add, pow-add, pow_pos, shl_exact, shr-shr}
 use Rattle.rack.specs.Lists.{one}
 use Rattle.rack.specs.Bits.{number_bit, bits_value}
 
@@ -162,3 +162,10 @@ le_byte z (suc (suc (suc (suc (suc zero))))) h = refl
 le_byte z (suc (suc (suc (suc (suc (suc zero)))))) h = refl
 le_byte z (suc (suc (suc (suc (suc (suc (suc zero))))))) h = refl
 le_byte z (suc (suc (suc (suc (suc (suc (suc (suc i)))))))) h = absurd (omega arith)
+
+-- and its weight, by its bits
+pub byte_weight : (i : ℕ) → 256 ^ i ≡ 2 ^ (8 * i)
+byte_weight zero = refl
+byte_weight (suc i) =
+    let e : 8 * suc i ≡ 8 + 8 * i = omega arith in
+    rw (e, pow-add 2 8 (8 * i), ← (byte_weight i)) (pow-succ' 256 i)
