@@ -37,10 +37,7 @@ fn lowest_link(plan: Plan<'_>, card: usize) -> Option<usize>
 pub fn last_hangs(plan: Plan<'_>) -> bool
     ensures { result ≡ last_hangs (plan_wiring plan.entry.bytes.now) }
 {
-    match lowest_link(plan, plan.cards - 1) {
-        Some(i) => i + 1 == plan.links,
-        None => false,
-    }
+    lowest_link(plan, plan.cards - 1).is_some_and(|i| i + 1 == plan.links)
 }
 
 // Appends the ends of all `m` links and of one more, from `card` to `n`. The bytes need not be a plan's but for the ends, so no Plan is asked.
