@@ -59,21 +59,3 @@ pub fn ends(bytes: &[u8], base: usize, m: usize, i: usize) -> (usize, usize)
         number_at(bytes, base + 2 * m + 2 * i),
     )
 }
-
-// The first end of link `i` of `m`, in bytes whose ends stand from `base` on.
-pub fn first_end(bytes: &[u8], base: usize, m: usize, i: usize) -> usize
-    requires { (m ≡ number_at bytes.now 2) × (base + 4 * m ≤ length bytes.now) × (i < m) }
-    ensures is { result ≡ (link_at (wiring_at base bytes.now) i).first }
-    ensures small { result < 65536 }
-{
-    number_at(bytes, base + 2 * i)
-}
-
-// The second end of link `i` of `m`.
-pub fn second_end(bytes: &[u8], base: usize, m: usize, i: usize) -> usize
-    requires { (m ≡ number_at bytes.now 2) × (base + 4 * m ≤ length bytes.now) × (i < m) }
-    ensures is { result ≡ (link_at (wiring_at base bytes.now) i).second }
-    ensures small { result < 65536 }
-{
-    number_at(bytes, base + 2 * m + 2 * i)
-}

@@ -2,7 +2,7 @@
 ghost use Rattle.rack.specs.Formed.{Formed, SizesAre};
 ghost use Rattle.rack.specs.PlanFile.{Sized};
 
-use crate::bytes::{bit_at, ends, first_end, second_end};
+use crate::bytes::{bit_at, ends};
 use crate::plan_file::{address_size, address_start};
 
 // A wiring file that passed 2 to 5.
@@ -45,24 +45,6 @@ impl<'a> SizedFile<'a> {
     {
         ends(self.bytes, 4, self.links, i)
     }
-
-    // The first end of link `i`.
-    pub fn first_end(self, i: usize) -> usize
-        requires { i < self.links }
-        ensures is { result ≡ (link_at (file_wiring self.entry.bytes.now) i).first }
-        ensures small { result < 65536 }
-    {
-        first_end(self.bytes, 4, self.links, i)
-    }
-
-    // The second end of link `i`.
-    pub fn second_end(self, i: usize) -> usize
-        requires { i < self.links }
-        ensures is { result ≡ (link_at (file_wiring self.entry.bytes.now) i).second }
-        ensures small { result < 65536 }
-    {
-        second_end(self.bytes, 4, self.links, i)
-    }
 }
 
 impl<'a> FormedFile<'a> {
@@ -78,24 +60,6 @@ impl<'a> FormedFile<'a> {
         ensures cards { (result.0 < self.entry.sized.cards) × (result.1 < self.entry.sized.cards) }
     {
         self.sized.ends(i)
-    }
-
-    // The first end of link `i`, a card.
-    pub fn first_end(self, i: usize) -> usize
-        requires { i < self.sized.links }
-        ensures is { result ≡ (link_at (file_wiring self.entry.sized.bytes.now) i).first }
-        ensures card { result < self.entry.sized.cards }
-    {
-        self.sized.first_end(i)
-    }
-
-    // The second end of link `i`, another card.
-    pub fn second_end(self, i: usize) -> usize
-        requires { i < self.sized.links }
-        ensures is { result ≡ (link_at (file_wiring self.entry.sized.bytes.now) i).second }
-        ensures card { result < self.entry.sized.cards }
-    {
-        self.sized.second_end(i)
     }
 }
 
@@ -113,24 +77,6 @@ impl<'a> Plan<'a> {
         ensures small { (result.0 < 65536) × (result.1 < 65536) }
     {
         ends(self.bytes, 6, self.links, i)
-    }
-
-    // The first end of link `i`; it need not be a card.
-    pub fn first_end(self, i: usize) -> usize
-        requires { i < self.links }
-        ensures is { result ≡ (link_at (plan_wiring self.entry.bytes.now) i).first }
-        ensures small { result < 65536 }
-    {
-        first_end(self.bytes, 6, self.links, i)
-    }
-
-    // The second end of link `i`; it need not be a card.
-    pub fn second_end(self, i: usize) -> usize
-        requires { i < self.links }
-        ensures is { result ≡ (link_at (plan_wiring self.entry.bytes.now) i).second }
-        ensures small { result < 65536 }
-    {
-        second_end(self.bytes, 6, self.links, i)
     }
 
     // The bytes of an address.
