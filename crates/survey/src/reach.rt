@@ -40,7 +40,8 @@ fn spread_pass(file: FormedFile<'_>, flags: &mut [u8; LENT_HOPS]) -> usize
     moved
 }
 
-// Spreads the flags over the links in an order.
+// Spreads the flags over the links in an order. Not `sweep` of `hops` with another step: a closure for both would need clauses on what it
+// captured, the flags here and the bounds there.
 fn spread_order(file: OrderedFile<'_>, flags: &mut [u8; LENT_HOPS])
     requires { Flagged (file_wiring file.formed.sized.bytes.now) flags.old }
     ensures { Flagged (file_wiring file.entry.formed.sized.bytes.now) flags.new }
