@@ -24,7 +24,8 @@ pub fn put_sizes(output: &mut Output<'_>, n: usize, m: usize, k: usize)
     output.put_number(k);
 }
 
-// Appends the ends of the links, number by number, as `written_bytes` has them.
+// Appends the ends of the links, number by number: of the bytes behind a struct it is not known that they are below 256, so the goal that
+// those of the file itself are the numbers' two bytes stays open.
 fn put_ends(file: SizedFile<'_>, output: &mut Output<'_>)
     requires { output.old.length + 4 * file.links ≤ length output.old.bytes.now }
     ensures { Grows output.old output.new (blocks (2 * file.entry.links) (end_pair file.entry.bytes.now)) }

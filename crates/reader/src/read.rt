@@ -37,6 +37,7 @@ fn content_holds(plan: Plan<'_>) -> bool
     let mut file = [0u8; 4 + 4 * MOST_LINKS];
     inner_file(plan, &mut file);
     let mut written = [0u8; LENT_PLAN];
+    // A match and no `is_ok_and`, whose closure, two tests joined by &&, leaves the goal `returns` open.
     match write_plan(&file[0..4 + 4 * plan.links], &mut written) {
         Ok(length) => length as usize == plan.bytes.len() && begins_with(&written, plan.bytes),
         Err(_) => false,

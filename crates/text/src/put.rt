@@ -19,7 +19,7 @@ fn put_digits(text: &mut Text<'_>, v: u32, left: u32)
     text.put_byte(digit(v % 10));
 }
 
-// Appends a decimal number.
+// Appends a decimal number. A function and no method: a type's methods stand in its own crate, rack, and decimals are of this one.
 pub fn put_decimal(text: &mut Text<'_>, v: u32)
     requires { text.old.length + length (decimal v) ≤ length text.old.bytes.now }
     ensures { Grows text.old text.new (decimal v) }
