@@ -83,7 +83,7 @@ pub fn step_between(counted: CountedPlan<'_>, a: usize, b: usize) -> Step
     Step::Stuck
 }
 
-// A plan that has both cards: 12, 14.
+// A plan that has both cards: 12, 14. The two are given as numbers, here and in every call on a frame, as they come from outside.
 pub fn frame_plan(plan: &[u8], from: u32, goal: u32) -> Result<Plan<'_>, Refused>
     ensures says { FrameSizes plan.now from goal (sizes_of result) }
     ensures bytes { IfOk result (λ p. p.bytes ≡ plan.entry) }

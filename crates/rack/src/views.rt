@@ -1,4 +1,5 @@
-// Files seen with their sizes: a wiring file that passed 2 to 5, one that passed 6 and 7 as well, and a plan that passed 12.
+// Files seen with their sizes: a wiring file that passed 2 to 5, one that passed 6 and 7 as well, and a plan that passed 12. Cards, links and
+// columns are numbers that index, and any may be given: a narrower type would ask more of callers.
 ghost use Rattle.rack.specs.Formed.{Formed, SizesAre};
 ghost use Rattle.rack.specs.PlanFile.{Sized};
 

@@ -1,4 +1,5 @@
-// Answers taken apart for the tests: the number is returned, the other fields go into lent numbers, in their order.
+// Answers taken apart for the tests: the number is returned, the other fields go into lent numbers, in their order. Each record has its own
+// fields and order, and so a function of its own.
 ghost use Rattle.std.specs.Prelude.{◌≡◌, length, replicate, unwrap_or};
 ghost use Rattle.rack.specs.Refused.{number_of, refusal_of};
 ghost use Rattle.planner.specs.Answer.{answer_of};
@@ -138,6 +139,7 @@ pub fn put_caller_walk(
 {
     match w {
         Ok(w) => {
+            // Taken apart first: the check of borrows does not cover an array that is stored straight from a field.
             let Traffic {
                 frames: f,
                 hops: h,

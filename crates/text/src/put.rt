@@ -5,7 +5,7 @@ ghost use Rattle.text.specs.Decimals.{digit_code, digits, decimal};
 
 pub use rack::output::Output as Text;
 
-// Appends at most `left` digits of a number.
+// Appends at most `left` digits of a number. Not by `write!`, which ensures a text only with an `Ok`, and never that there is one.
 fn put_digits(text: &mut Text<'_>, v: u32, left: u32)
     requires { text.old.length + length (digits left v) ≤ length text.old.bytes.now }
     ensures { Grows text.old text.new (digits left v) }
