@@ -61,7 +61,7 @@ fn put_bytes(word: u64, at: usize, columns: &mut [u64; LENT_WORDS])
     }
 }
 
-// Word `t` of the sets of eight columns, those of byte `b` of an address, in words that are zero.
+// Word `t` of the sets of eight columns, those of byte `b` of an address, in words that are zero: some of those of one array.
 fn eight_columns(
     spread: &Spread,
     plan: Plan<'_>,

@@ -34,7 +34,7 @@ impl<'a> Labels<'a> {
     ghost use Rattle.std.specs.Prelude.{◌≤◌};
     ghost use Rattle.rack.specs.Limits.{most_columns};
 
-    // No link of a file has a label.
+    // No link of a file has a label; made so and filled in place, as the lists of link_order are.
     pub fn empty(file: SizedFile<'a>) -> Self {
         Labels {
             file,

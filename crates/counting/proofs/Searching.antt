@@ -1,18 +1,19 @@
 -- The search for the lowest differing place: over equal bytes first, then bit by bit. Assumes nothing.
 use mathlib.Core.Path.{◌≡◌, refl, sym, ap, ◌∙◌}
-use mathlib.Core.Logic.{◌≢◌}
 use mathlib.Core.Bool.{Bool, true, false, not}
 use mathlib.Core.List.{List}
 use Prim.Native.Nat.{ℕ, ◌+◌, ◌*◌, ◌/◌, ◌%◌, ◌≤◌, ◌<◌}
 use native.Mathlib.Omega.{arith}
 use lib.Dec.{eqb}
 use lib.ListN.{get_or}
-use borrow.Author.Tests.{eqb-true, eq-eqb, ne_eqb}
+use borrow.Author.Tests.{eqb-true}
 use Rattle.rack.specs.Bits.{number_bit}
-use Rattle.rack.specs.Lists.{differ, lowest}
+use Rattle.std.specs.Prelude.{Option, None, Some}
+use Rattle.std.specs.Option.{unwrap_or}
+use Rattle.rack.specs.Lists.{FoundBelow, differ, lowest}
 use Rattle.rack.specs.PlanFile.{bit_from}
 use Rattle.rack.proofs.Logic.{differ_self}
-use Rattle.rack.proofs.Tables.{lowest_le, lowest_first, lowest_is}
+use Rattle.rack.proofs.Tables.{lowest_le, lowest_first}
 
 not_false : (b : Bool) → not b ≡ false → b ≡ true
 not_false true e = refl
@@ -20,19 +21,16 @@ not_false false e = sym e
 
 module _ (xs ys : List ℕ) where
   -- the one has another t-th byte than the other; another j-th bit
-  abbrev bytes_differ : (t : ℕ) → Bool
+  abbrev pub bytes_differ : (t : ℕ) → Bool
   bytes_differ t = not (eqb (get_or xs t 0) (get_or ys t 0))
 
   abbrev pub bits_apart : (j : ℕ) → Bool
   bits_apart j = differ (bit_from xs 0 j) (bit_from ys 0 j)
 
   -- EQUAL BYTES up to the first that differs; so their bits agree
-  pub bytes_ended : (count t : ℕ) → t ≤ count → ((j : ℕ) → j < t → get_or xs j 0 ≡ get_or ys j 0) → (t < count → get_or xs t 0 ≢ get_or ys t 0)
-      → t ≡ lowest count bytes_differ
-  bytes_ended count t h equal other =
-      sym (lowest_is count bytes_differ t h
-      (λ j l. rw (eq-eqb (get_or xs j 0) (get_or ys j 0) (equal j l)) refl)
-      (λ l. rw (ne_eqb (get_or xs t 0) (get_or ys t 0) (other l)) refl))
+  pub bytes_found : (count : ℕ) (r : Option ℕ) → FoundBelow count (lowest count bytes_differ) r → unwrap_or r count ≡ lowest count bytes_differ
+  bytes_found count None e = sym e
+  bytes_found count (Some i) e = e.0
 
   pub bytes_within : (count t : ℕ) → t ≡ lowest count bytes_differ → t ≤ count
   bytes_within count t e = omega (arith, e, lowest_le count bytes_differ)

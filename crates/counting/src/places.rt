@@ -84,18 +84,12 @@ fn bits_differ(x: &[u8], y: &[u8], j: usize) -> bool
     bit_at(x, 0, j) != bit_at(y, 0, j)
 }
 
-// How many of the first `count` bytes are equal, before the first that differs: a `for` that returns, since a length that may be the whole is no
-// search that may fail.
+// How many of the first `count` bytes are equal, before the first that differs.
 fn equal_bytes(x: &[u8], y: &[u8], count: usize) -> usize
     requires { (count ≤ length x.now) × (count ≤ length y.now) }
     ensures { result ≡ lowest count (λ t. not (eqb (get_or x.now t 0) (get_or y.now t 0))) }
 {
-    for i in 0..count {
-        if x[i] != y[i] {
-            return i;
-        }
-    }
-    count
+    (0..count).find(|i| x[*i] != y[*i]).unwrap_or(count)
 }
 
 // The lowest of the first `k` places in which the bits differ. Equal bytes are passed at once.

@@ -60,7 +60,7 @@ fn is_nearer(
     false
 }
 
-// The step from card `a` towards card `b`: over the first link that leads nearer.
+// The step from card `a` towards card `b`: over the first link that leads nearer. A `for` that returns, since marks are set on the way.
 pub fn step_between(counted: CountedPlan<'_>, a: usize, b: usize) -> Step
     requires { (a < counted.plan.cards) × (b < counted.plan.cards) }
     ensures { step_seen result ≡ step counted.entry.plan.bytes.now a b }

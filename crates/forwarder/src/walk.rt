@@ -38,7 +38,8 @@ struct Route {
     hops: u32,
 }
 
-// Walks from card `a` to card `b`, and writes the cards met, the first one first, into numbers that are zero at entry.
+// Walks from card `a` to card `b`, until a step says that it is over, and writes the cards met, the first one first, into numbers that are zero
+// at entry: its one caller declares them so, and a fill would make them zero twice.
 fn walk_between(counted: CountedPlan<'_>, a: usize, b: usize, met: &mut [u16; LENT_MET]) -> Route
     requires { (a < counted.plan.cards) × (b < counted.plan.cards) × (met.old ≡ replicate lent_met 0) }
     ensures { RouteIs (walk counted.entry.plan.bytes.now a b) result met.new }

@@ -16,7 +16,7 @@ impl Breadth {
     ghost use Rattle.std.specs.Prelude.{◌≤◌, length};
     ghost use Rattle.rack.specs.Limits.{most_cards};
 
-    // No card is listed or met.
+    // No card is listed or met; made so and filled in place, as the lists are.
     pub fn empty() -> Self {
         Breadth {
             lists: Lists::empty(),

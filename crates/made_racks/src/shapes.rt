@@ -62,7 +62,7 @@ fn rest(x: usize, by: usize) -> usize {
     x.checked_rem(by).unwrap_or(0)
 }
 
-// The cards in a row, and behind it one link more.
+// The cards in a row, and behind it one link more. Here and below `i < 4096` keeps sums small: any number of links is below.
 fn extra_link(n: usize, i: usize) -> (usize, usize)
     requires { i < 4096 }
 {

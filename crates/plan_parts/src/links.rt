@@ -52,7 +52,7 @@ pub fn put_more_ends(plan: &[u8], m: usize, card: usize, n: usize, output: &mut 
     output.put_number(n);
 }
 
-// Appends the ends of the first `count` of `m` links.
+// Appends the ends of the first `count` of `m` links; of bytes, as above.
 pub fn put_fewer_ends(plan: &[u8], m: usize, count: usize, output: &mut Output<'_>)
     requires { LinksIn plan.now m × (count ≤ m) × (output.old.length + 4 * count ≤ length output.old.bytes.now) }
     ensures { Grows output.old output.new (first_ends plan.now count ++ second_ends plan.now count) }

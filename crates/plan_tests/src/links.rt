@@ -42,7 +42,7 @@ fn link_holds(plan: Plan<'_>, i: usize, marks: &mut [u64; LENT_WORDS]) -> bool
     set_mark(marks, p, q) || set_mark(marks, q, p)
 }
 
-// Whether none of 6 to 8 applies to the links.
+// Whether none of 6 to 8 applies to the links. A `for` that returns, since marks are set on the way.
 pub fn links_hold(plan: Plan<'_>) -> bool
     ensures { result ≡ eqb (links_refusal (plan_wiring plan.entry.bytes.now)).number 0 }
 {

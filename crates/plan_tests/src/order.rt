@@ -30,7 +30,8 @@ fn only_column(counted: CountedPlan<'_>, p: usize, q: usize) -> Option<usize>
     lowest_column(counted.plan, p, q)
 }
 
-// Whether the links open the columns in their order. If they do, `crossed` has the column that each crosses.
+// Whether the links open the columns in their order. If they do, `crossed` has the column that each crosses. The buffer is lent, so that a caller
+// says where it stands; who goes on makes a `CrossedPlan` of it.
 pub fn order_holds(ones: &Ones, linked: LinkedPlan<'_>, crossed: &mut [u8; MOST_LINKS]) -> bool
     ensures is { result ≡ columns_in_order linked.entry.plan.columns (plan_bit linked.entry.plan.bytes.now) 0 (plan_wiring linked.entry.plan.bytes.now).links }
     ensures crossed { result ≡ true → CrossedColumns linked.entry.plan.columns (plan_bit linked.entry.plan.bytes.now) (plan_wiring linked.entry.plan.bytes.now) crossed.new linked.entry.plan.links }

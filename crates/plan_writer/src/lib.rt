@@ -14,7 +14,7 @@ use rack::output::Output;
 use rack::plan_file::address_size;
 use rack::views::SizedFile;
 
-// Appends the three sizes.
+// Appends the three sizes, as numbers, since the plan is still to be written.
 pub fn put_sizes(output: &mut Output<'_>, n: usize, m: usize, k: usize)
     requires { output.old.length + 6 ≤ length output.old.bytes.now }
     ensures { Grows output.old output.new (two_bytes n ++ two_bytes m ++ two_bytes k) }

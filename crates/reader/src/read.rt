@@ -13,7 +13,7 @@ use rack::output::Output;
 use rack::refused::Refused;
 use rack::views::Plan;
 
-// Whether `written` begins with the bytes of `plan`.
+// Whether `written` begins with the bytes of `plan`: one by one, since `==` of slices calls memcmp, which the C library may not.
 fn begins_with(written: &[u8], plan: &[u8]) -> bool
     requires { length plan.now ≤ length written.now }
     ensures { IsTrue result ↔ EachIndex plan.now (λ k. slice_index written.now k ≡ slice_index plan.now k) }

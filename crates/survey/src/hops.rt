@@ -56,7 +56,7 @@ fn lower_pass(file: FormedFile<'_>, bounds: &mut [u8; LENT_HOPS]) -> u8
     off
 }
 
-// Lowers by the links in an order.
+// Lowers by the links in an order. Not `spread_order` of `reach` with another step, for what is said there.
 fn sweep<'a, I: Iterator<Item = &'a u16> + Drop>(
     file: FormedFile<'_>,
     order: I,
@@ -126,7 +126,7 @@ pub fn all_hops(file: OrderedFile<'_>, hops: &mut [u8; LENT_HOPS])
     settle(file, hops);
 }
 
-// The lowest link whose ends have equal hops from card 0, with 10.
+// The lowest link whose ends have equal hops from card 0, with 10. A `for` that returns, since with `find` the test would be as long as the loop.
 pub fn parity_refusal(file: MeasuredFile<'_>) -> Result<(), Refused>
     ensures { RefusesWith (parity_refusal (file_wiring file.entry.formed.sized.bytes.now)) result }
 {

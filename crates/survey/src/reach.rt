@@ -55,7 +55,7 @@ fn spread_order(file: OrderedFile<'_>, flags: &mut [u8; LENT_HOPS])
     }
 }
 
-// Flags every card that can be reached from card 0. The order only saves passes.
+// Flags every card that can be reached from card 0: until a pass flags none. The order only saves passes.
 fn reach(file: OrderedFile<'_>, flags: &mut [u8; LENT_HOPS])
     ensures { Reached (file_wiring file.entry.formed.sized.bytes.now) flags.new }
 {
