@@ -121,12 +121,14 @@ fn mixed_card(n: usize, c: usize) -> usize {
     rest(77 * c + 13, n)
 }
 
-// Puts the two ends of link `i` of `m` into a file.
+// Puts the two ends of link `i` of `m` into a file that has room for them.
 pub fn put_link(file: &mut [u8; LENT_FILE], m: usize, i: usize, ends: (usize, usize))
-    requires { (i ≤ most_links) × (m ≤ most_links + 1) }
+    requires { (i < 4096) × (m < 4096) }
 {
-    put_number(file, 4 + 2 * i, ends.0);
-    put_number(file, 4 + 2 * m + 2 * i, ends.1);
+    if 6 + 2 * m + 2 * i <= LENT_FILE {
+        put_number(file, 4 + 2 * i, ends.0);
+        put_number(file, 4 + 2 * m + 2 * i, ends.1);
+    }
 }
 
 // A rack by a rule; its cards and links may be mixed.
