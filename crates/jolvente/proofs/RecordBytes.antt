@@ -10,7 +10,7 @@ use Rattle.rack.proofs.Appending.{length_four_bytes, written_none, written_full,
 use Rattle.rack.proofs.Tables.{tabulate_ext, tabulate_get_or, length_blocks}
 use Rattle.rack.proofs.WiringFile.{length_two_bytes, number_at_blocks}
 use Rattle.forwarder.specs.Calls.{lent_met}
-use Rattle.jolvente.specs.Records.{lent_record, lent_met_bytes, record_bytes, card_bytes, cards_in}
+use Rattle.jolvente.specs.Records.{lent_record, record_bytes, card_bytes, cards_in}
 
 -- A RECORD of four, and one that reads so
 pub record Reads (bs : List ℕ) (x y z u : ℕ) : Type 0 where
@@ -38,9 +38,12 @@ module _ (x y z u : ℕ) where
   record_reads hx hy hz hu = record { first = omega arith; second = omega arith; third = omega arith; fourth = omega arith }
 
 -- CARDS: numbers of 16 bits
+pub length_first_cards : (n : ℕ) (cs : List ℕ) → length (blocks n (λ i. two_bytes (get_or cs i 0))) ≡ 2 * n
+length_first_cards n cs = omega (arith, length_blocks n 2 (λ i. two_bytes (get_or cs i 0)) (λ i. length_two_bytes (get_or cs i 0)))
+
 pub length_card_bytes : (cs : List ℕ) → length (card_bytes cs) ≡ 2 * length cs
 unfolding card_bytes
-length_card_bytes cs = omega (arith, length_blocks (length cs) 2 (λ i. two_bytes (get_or cs i 0)) (λ i. length_two_bytes (get_or cs i 0)))
+length_card_bytes cs = length_first_cards (length cs) cs
 
 pub cards_read : (cs : List ℕ) → length cs ≡ lent_met → ((i : ℕ) → i < lent_met → get_or cs i 0 < 65536) → cards_in (card_bytes cs) ≡ cs
 unfolding cards_in card_bytes
@@ -48,9 +51,3 @@ cards_read cs e small =
     rw e (tabulate_ext 256 (λ i. number_at (blocks 256 (λ i. two_bytes (get_or cs i 0))) (2 * i)) (λ i. get_or cs i 0)
     (λ i h. number_at_blocks 256 (λ i. get_or cs i 0) i h (small i h)))
     ∙ ap (λ (n : ℕ). tabulate n (λ i. get_or cs i 0)) (sym e) ∙ tabulate_get_or cs 0
-
-pub cards_appended : (n : ℕ) (cs o₀ o : List ℕ) → o₀ ≡ replicate n 0 → length o ≡ lent_met_bytes → length cs ≡ lent_met
-    → Appends 0 o₀ o (blocks 256 (λ i. two_bytes (get_or cs i 0))) → o ≡ card_bytes cs
-unfolding card_bytes
-cards_appended n cs o₀ o e long few a =
-    written_full o (card_bytes cs) (omega (arith, length_card_bytes cs)) (rw few (a [] refl (rw e (written_none n))))

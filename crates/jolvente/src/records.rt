@@ -3,7 +3,8 @@ ghost use Rattle.std.specs.Prelude.{◌≡◌};
 ghost use Rattle.jolvente.specs.Records.{card_bytes, record_bytes};
 
 use forwarder::walk::LENT_MET;
-use rack::bytes::{put_number, put_number32};
+use rack::bytes::put_number32;
+use rack::output::Output;
 
 // The lengths of the lent bytes: a record, and two bytes for each card.
 pub const LENT_RECORD: usize = 16;
@@ -25,8 +26,8 @@ pub fn put_record(record: &mut [u8; LENT_RECORD], x: u32, y: u32, z: u32, u: u32
 pub fn put_cards(cards: &[u16; LENT_MET], bytes: &mut [u8; LENT_MET_BYTES])
     ensures { bytes.new ≡ card_bytes cards.now }
 {
-    bytes.fill(0);
-    for (i, card) in cards.iter().enumerate() {
-        put_number(bytes, 2 * i, usize::from(*card));
+    let mut written = Output::new(bytes);
+    for card in cards {
+        written.put_number(usize::from(*card));
     }
 }

@@ -1,31 +1,43 @@
--- The first i cards are appended. Assumes nothing.
-use mathlib.Core.Path.{◌≡◌, subst}
-use Prim.Native.Nat.{ℕ, ◌+◌, ◌*◌}
+-- One card more is appended each turn, and 256 fill the bytes. Assumes nothing.
+use mathlib.Core.Path.{◌≡◌, sym, ap, subst, ◌∙◌}
+use mathlib.Core.List.{◌++◌}
+use Prim.Native.Nat.{ℕ}
 use native.Mathlib.Omega.{arith}
 use lib.ListN.{length, get_or}
+use Rattle.rack.specs.Buffers.{two_bytes}
 use Rattle.rack.specs.Lists.{blocks}
-use Rattle.rack.specs.Buffers.{two_bytes, Appends}
-use Rattle.rack.proofs.WiringFile.{length_two_bytes}
-use Rattle.rack.proofs.Appending.{appended_block}
-use Rattle.jolvente.proofs.RecordBytes.{cards_appended}
+use Rattle.rack.specs.Putting.{Grows}
+use Rattle.rack.proofs.Appending.{written_full}
+use Rattle.rack.proofs.Tables.{blocks_snoc}
+use Rattle.rack.proofs.Putting.{grows_then, grows_as, grown_written}
+use Rattle.jolvente.specs.Records.{card_bytes}
+use Rattle.jolvente.proofs.RecordBytes.{length_first_cards, length_card_bytes}
 use Rattle.jolvente.proofs.records.put_cards.Goals as goal
 
-pub loop-i-preserved : goal.loop-i-preserved
-loop-i-preserved c =
-    let l = c.loop-i in
-    let cards = c.args.cards.now in
-    let e : 2 * l.i ≡ 0 + l.i * 2 = omega arith in
-    appended_block 0 l.i 2 _ _ _ (λ j. two_bytes (get_or cards j 0)) (λ j. length_two_bytes (get_or cards j 0))
-    c.put_number.auto.output l.invariant
-    (subst (λ (p : ℕ). Appends p l.bytes c.put_number.new.output (two_bytes (get_or cards l.i 0))) e
-    (rw c.from.ensures at c.put_number.ensures))
+pub shape_of-bytes-in-loop-card : goal.shape_of-bytes-in-loop-card
+shape_of-bytes-in-loop-card c = omega (arith, c.loop-card.invariant.room, c.new-written.ensures.room, c.told-bytes)
+
+pub put_number-requires : goal.put_number-requires
+put_number-requires c =
+    let l = c.loop-card in
+    let p = l.invariant in
+    let new = c.new-written.ensures in
+    omega (arith, p.room, p.puts.place, new.room, new.start, c.told-bytes, length_first_cards l.card-index c.args.cards.now)
+
+pub loop-card-preserved : goal.loop-card-preserved
+loop-card-preserved c =
+    let l = c.loop-card in
+    let f = λ (i : ℕ). two_bytes (get_or c.args.cards.now i 0) in
+    grows_as (ap (λ (v : ℕ). blocks l.card-index f ++ two_bytes v) c.from.ensures ∙ sym (blocks_snoc l.card-index f))
+    (grows_then l.invariant c.put_number.ensures)
 
 pub returns : goal.returns
+unfolding card_bytes
 returns c =
-    let l = c.loop-i in
+    let l = c.loop-card in
+    let new = c.new-written.ensures in
     let cards = c.args.cards.now in
-    let e : l.i ≡ 256 = omega arith in
-    let zeros = c.fill.new.self in
-    let all = subst (λ (k : ℕ). Appends 0 zeros l.bytes (blocks k (λ j. two_bytes (get_or cards j 0)))) e l.invariant.adds in
-    cards_appended (length c.args.bytes.now) cards zeros l.bytes (c.fill.ensures.after (λ y e. e))
-    (omega (arith, l.invariant.long)) (omega arith) all
+    let e : l.card-index ≡ length cards = omega (arith, c.told-cards) in
+    let all = subst (λ (n : ℕ). Grows c.new-written.result l.written (blocks n (λ i. two_bytes (get_or cards i 0)))) e l.invariant in
+    written_full l.written.bytes.now (card_bytes cards)
+    (omega (arith, all.room, new.room, c.told-bytes, c.told-cards, length_card_bytes cards)) (grown_written new.start new.zeros all)
