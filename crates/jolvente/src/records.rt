@@ -3,7 +3,6 @@ ghost use Rattle.std.specs.Prelude.{◌≡◌};
 ghost use Rattle.jolvente.specs.Records.{card_bytes, record_bytes};
 
 use forwarder::walk::LENT_MET;
-use rack::bytes::put_number32;
 use rack::output::Output;
 
 // The lengths of the lent bytes: a record, and two bytes for each card.
@@ -15,11 +14,11 @@ pub const LENT_MET_BYTES: usize = 512;
 pub fn put_record(record: &mut [u8; LENT_RECORD], x: u32, y: u32, z: u32, u: u32)
     ensures { «record».new ≡ record_bytes x y z u }
 {
-    record.fill(0);
-    put_number32(record, 0, x);
-    put_number32(record, 4, y);
-    put_number32(record, 8, z);
-    put_number32(record, 12, u);
+    let mut written = Output::new(record);
+    written.put_number32(x);
+    written.put_number32(y);
+    written.put_number32(z);
+    written.put_number32(u);
 }
 
 // Writes the cards met.

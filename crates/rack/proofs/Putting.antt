@@ -7,7 +7,7 @@ use borrow.Rule.Slice.PartMut.{put_mid}
 use lib.ListN.{length, take, drop, replicate, length-append, length-replicate, replicate-append-replicate}
 use Rattle.std.proofs.lemmas.List.{length-drop, length-take-le}
 use Rattle.rack.specs.Buffers.{Written, Appends}
-use Rattle.rack.proofs.Appending.{appended_none, appends_then}
+use Rattle.rack.proofs.Appending.{appends_none, appends_then}
 use Rattle.rack.specs.declared.output.Output.{Output}
 use Rattle.rack.specs.Putting.{Puts, Grows}
 
@@ -20,7 +20,7 @@ puts_then {at} {next} {last} {old} {mid} {new} {ys} {zs} a b =
     }
 
 pub grows_none : (t : Output) → Grows t t []
-grows_none t = record { same = refl; room = refl; puts = record { place = omega arith; adds = (appended_none t.length t.bytes.now).adds } }
+grows_none t = record { same = refl; room = refl; puts = record { place = omega arith; adds = appends_none t.length t.bytes.now } }
 
 pub grows_then : {a b c : Output} {ys zs : List ℕ} → Grows a b ys → Grows b c zs → Grows a c (ys ++ zs)
 grows_then p q = record { same = q.same ∙ p.same; room = q.room ∙ p.room; puts = puts_then p.puts q.puts }

@@ -1,9 +1,9 @@
 // Bytes and numbers, appended to a lent buffer where what is written of it ends.
 ghost use Rattle.std.specs.Prelude.{◌≡◌, [], ◌∷◌, ◌+◌, ◌<◌, ◌≤◌, length, replicate};
-ghost use Rattle.rack.specs.Buffers.{two_bytes, Written};
+ghost use Rattle.rack.specs.Buffers.{four_bytes, two_bytes, Written};
 ghost use Rattle.rack.specs.Putting.{Grows};
 
-use crate::bytes::put_number;
+use crate::bytes::{put_number, put_number32};
 
 // The buffer, and how many of its bytes are written; behind them it is zero.
 #[derive(Drop)]
@@ -58,6 +58,15 @@ impl<'a> Output<'a> {
     {
         put_number(self.bytes, self.length, v);
         self.length += 2;
+    }
+
+    // Appends a number of 32 bits.
+    pub fn put_number32(&mut self, v: u32)
+        requires { self.old.length + 4 ≤ length self.old.bytes.now }
+        ensures { Grows self.old self.new (four_bytes v) }
+    {
+        put_number32(self.bytes, self.length, v);
+        self.length += 4;
     }
 }
 

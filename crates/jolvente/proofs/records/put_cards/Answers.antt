@@ -14,15 +14,8 @@ use Rattle.jolvente.specs.Records.{card_bytes}
 use Rattle.jolvente.proofs.RecordBytes.{length_first_cards, length_card_bytes}
 use Rattle.jolvente.proofs.records.put_cards.Goals as goal
 
-pub shape_of-bytes-in-loop-card : goal.shape_of-bytes-in-loop-card
-shape_of-bytes-in-loop-card c = omega (arith, c.loop-card.invariant.room, c.new-written.ensures.room, c.told-bytes)
-
 pub put_number-requires : goal.put_number-requires
-put_number-requires c =
-    let l = c.loop-card in
-    let p = l.invariant in
-    let new = c.new-written.ensures in
-    omega (arith, p.room, p.puts.place, new.room, new.start, c.told-bytes, length_first_cards l.card-index c.args.cards.now)
+put_number-requires c = omega (arith, length_first_cards c.loop-card.card-index c.args.cards.now)
 
 pub loop-card-preserved : goal.loop-card-preserved
 loop-card-preserved c =
@@ -37,7 +30,6 @@ returns c =
     let l = c.loop-card in
     let new = c.new-written.ensures in
     let cards = c.args.cards.now in
-    let e : l.card-index ≡ length cards = omega (arith, c.told-cards) in
+    let e : l.card-index ≡ length cards = omega arith in
     let all = subst (λ (n : ℕ). Grows c.new-written.result l.written (blocks n (λ i. two_bytes (get_or cards i 0)))) e l.invariant in
-    written_full l.written.bytes.now (card_bytes cards)
-    (omega (arith, all.room, new.room, c.told-bytes, c.told-cards, length_card_bytes cards)) (grown_written new.start new.zeros all)
+    written_full _ (card_bytes cards) (omega (arith, length_card_bytes cards)) (grown_written new.start new.zeros all)
