@@ -3,3 +3,4 @@ pub mod SetLoops
 pub mod Covers
 pub mod JoinedWords
 pub mod JoinedLinks
+pub mod AllTests
