@@ -106,7 +106,7 @@ impl<'a> Opened<'a> {
         ensures says { ConferenceSaysWith (seen self.entry) self.entry.total a b c (conference_of result) }
         ensures promise { OnOk result (CardOrNone (seen self.entry) a b c (conference_of result)) }
     {
-        conference_sized(self.read()?, a, b, c)
+        conference_sized(self.read(), a, b, c)
     }
 
     // Writes the plan with card n on a new last link from `card`, and gives its length and its sum of hops: 1, 12, 13, 14, 16.

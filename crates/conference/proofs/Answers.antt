@@ -1,5 +1,5 @@
 -- What refuses three callers, and the answer from what reading and the search give. Assumes nothing.
-use Rattle.std.specs.Prelude.{Option, None, Some, MatchOption, Ok, Err}
+use Rattle.std.specs.Prelude.{Option, None, Some, MatchOption, Result, Ok, Err, IfOk, IfErr, OnOk}
 use mathlib.Core.Path.{◌≡◌, refl, sym, ◌∙◌}
 use mathlib.Core.Bool.{◌||◌}
 use mathlib.Core.Logic.{◌⊎◌, inl, inr, ◌≢◌}
@@ -15,7 +15,10 @@ use Rattle.rack.specs.Refused.{refusal_of}
 use Rattle.rack.specs.declared.refused.Refused.{Refused}
 use Rattle.rack.specs.declared.refused.Refused.TheVariants.{NoCard}
 use Rattle.rack.proofs.RefusalNumbers.{refusal_numbered}
-use Rattle.conference.specs.Conference.{conference, conference_of, three_refusal, conference_refusal, ConferenceIs}
+use Rattle.reader.specs.ReadPlans.{plan_of}
+use Rattle.reader.specs.Reading.{SizesSay, sizes_of}
+use Rattle.reader.specs.declared.views.ReadPlan.{ReadPlan}
+use Rattle.conference.specs.Conference.{conference, conference_of, three_refusal, conference_refusal, ConferenceIs, CardOrNone}
 
 -- all three are below n, or some one is not
 abbrev pub SomeOutside : (n a b c : ℕ) → Type 0
@@ -75,3 +78,17 @@ module _ (ps : List ℕ) (a b c : ℕ) where
         found = rw (lt-ltb (conference (plan_wiring ps) a b c) n (omega (arith, e))) refl;
         card = e;
       }
+
+-- BEHIND A READING: what is answered of a plan that was read, or of the refusal in its place, is answered of the bytes that were read
+module _ (ps : List ℕ) (a b c : ℕ) (result : Result (Option ℕ) Refused) where
+  pub says_behind : (x : ℕ) (read : Result ReadPlan Refused) → SizesSay ps x (sizes_of (plan_of read)) → IfOk read (λ r. r.plan.bytes.now ≡ ps)
+      → IfOk read (λ r. ConferenceIs (three_refusal 0 (plan_cards r.plan.bytes.now) a b c) r.plan.bytes.now a b c (conference_of result))
+      → IfErr read (λ e. result ≡ Err e) → ConferenceIs (three_refusal x (plan_cards ps) a b c) ps a b c (conference_of result)
+  says_behind x (Ok r) s same says before = rw (← s.number, ← same) says
+  says_behind x (Err e) s same says before = rw (before, ← s.number) (says_before ps a b c e)
+
+  pub promise_behind : (read : Result ReadPlan Refused) → IfOk read (λ r. r.plan.bytes.now ≡ ps)
+      → IfOk read (λ r. OnOk result (CardOrNone r.plan.bytes.now a b c (conference_of result)))
+      → IfErr read (λ e. result ≡ Err e) → OnOk result (CardOrNone ps a b c (conference_of result))
+  promise_behind (Ok r) same promise before = rw (← same) promise
+  promise_behind (Err e) same promise before = rw before tt

@@ -1,7 +1,7 @@
 // The conference card of three cards, on a plan's own bytes. Definitions in specs/, laws in proofs/.
 #![tactic(auto)]
 
-ghost use Rattle.std.specs.Prelude.{◌≡◌, OnOk};
+ghost use Rattle.std.specs.Prelude.{◌≡◌, Err, IfErr, IfOk, OnOk};
 ghost use Rattle.rack.specs.PlanFile.{plan_cards};
 ghost use Rattle.conference.specs.Callers.{CallersAre};
 ghost use Rattle.conference.specs.Conference.{CardOrNone, ConferenceIs, ConferenceSays, conference_of, three_refusal};
@@ -53,7 +53,7 @@ impl<'a> Callers<'a> {
 }
 
 // The conference card of three cards of a plan that was read, or none: 14.
-pub fn conference_sized(read: ReadPlan<'_>, a: u32, b: u32, c: u32) -> Result<Option<u32>, Refused>
+fn conference_of_read(read: ReadPlan<'_>, a: u32, b: u32, c: u32) -> Result<Option<u32>, Refused>
     ensures says { ConferenceIs (three_refusal 0 (plan_cards read.entry.plan.bytes.now) a b c) read.entry.plan.bytes.now a b c (conference_of result) }
     ensures promise { OnOk result (CardOrNone read.entry.plan.bytes.now a b c (conference_of result)) }
 {
@@ -76,10 +76,24 @@ pub fn conference_sized(read: ReadPlan<'_>, a: u32, b: u32, c: u32) -> Result<Op
     Ok(callers.lowest_median())
 }
 
+// The same of a reading: of the plan that it gives, or of its refusal, which comes before 14 and is handed on.
+pub fn conference_sized(
+    read: Result<ReadPlan<'_>, Refused>,
+    a: u32,
+    b: u32,
+    c: u32,
+) -> Result<Option<u32>, Refused>
+    ensures says { IfOk read.entry (λ r. ConferenceIs (three_refusal 0 (plan_cards r.plan.bytes.now) a b c) r.plan.bytes.now a b c (conference_of result)) }
+    ensures promise { IfOk read.entry (λ r. OnOk result (CardOrNone r.plan.bytes.now a b c (conference_of result))) }
+    ensures before { IfErr read.entry (λ e. result ≡ Err e) }
+{
+    conference_of_read(read?, a, b, c)
+}
+
 // The card that is on a shortest path between each two of three cards, or none: 12, 13, 14.
 pub fn conference_card(plan: &[u8], a: u32, b: u32, c: u32) -> Result<Option<u32>, Refused>
     ensures says { ConferenceSays plan.now a b c (conference_of result) }
     ensures promise { OnOk result (CardOrNone plan.now a b c (conference_of result)) }
 {
-    conference_sized(read_plan(plan)?, a, b, c)
+    conference_sized(read_plan(plan), a, b, c)
 }

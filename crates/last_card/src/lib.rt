@@ -29,7 +29,7 @@ pub fn add_card(
         return Err(Refused::Lent);
     };
     let read = read_with_total(plan, total)?;
-    let length = add_sized(read.plan, card, output)?;
+    let length = add_sized(Ok(read.plan), card, output)?;
     Ok(SummedPlan {
         length: length as u32,
         total: total + read.plan.cards as u32 + hops_from(read, card as usize),
@@ -45,7 +45,7 @@ pub fn take_card_off(plan: &[u8], total: u32, output: &mut [u8]) -> Result<Summe
         return Err(Refused::Lent);
     };
     let read = read_with_total(plan, total)?;
-    let length = take_off_sized(read.plan, output)?;
+    let length = take_off_sized(Ok(read.plan), output)?;
     Ok(SummedPlan {
         length: length as u32,
         total: total - hops_from(read, read.plan.cards - 1),

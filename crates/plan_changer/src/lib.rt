@@ -2,7 +2,7 @@
 // copied, and a card more has the address of the card that it hangs on with one bit more. Nothing is planned again.
 #![tactic(auto)]
 
-ghost use Rattle.std.specs.Prelude.{◌≡◌, ◌<◌, length};
+ghost use Rattle.std.specs.Prelude.{◌≡◌, ◌<◌, length, Err, IfErr, IfOk};
 ghost use Rattle.rack.specs.Limits.{most_cards, most_columns, most_links};
 ghost use Rattle.rack.specs.Buffers.{Written};
 ghost use Rattle.rack.specs.PlanFile.{plan_wiring};
@@ -53,7 +53,7 @@ fn put_fewer(plan: Plan<'_>, output: &mut [u8; LENT_PLAN]) -> usize
 }
 
 // Adds a card on a new last link from `card`: 14, 16, or the length of the new plan.
-pub fn add_sized(plan: Plan<'_>, card: u32, output: &mut [u8; LENT_PLAN]) -> Result<usize, Refused>
+fn add_known(plan: Plan<'_>, card: u32, output: &mut [u8; LENT_PLAN]) -> Result<usize, Refused>
     requires { Known plan }
     ensures { NewPlanIs (add_refusal 0 plan.entry.cards plan.entry.links card) (more_bytes plan.entry.bytes.now card) (new_plan_of result) output.old output.new }
 {
@@ -68,7 +68,7 @@ pub fn add_sized(plan: Plan<'_>, card: u32, output: &mut [u8; LENT_PLAN]) -> Res
 }
 
 // Takes the last card off: 17, or the length of the new plan.
-pub fn take_off_sized(plan: Plan<'_>, output: &mut [u8; LENT_PLAN]) -> Result<usize, Refused>
+fn take_off_known(plan: Plan<'_>, output: &mut [u8; LENT_PLAN]) -> Result<usize, Refused>
     requires { Known plan }
     ensures { NewPlanIs (off_refusal 0 (last_hangs (plan_wiring plan.entry.bytes.now))) (fewer_bytes plan.entry.bytes.now) (new_plan_of result) output.old output.new }
 {
@@ -76,4 +76,29 @@ pub fn take_off_sized(plan: Plan<'_>, output: &mut [u8; LENT_PLAN]) -> Result<us
         return Err(Refused::NotLast);
     }
     Ok(put_fewer(plan, output))
+}
+
+// Adds a card to a plan, or hands on a refusal that comes in its place.
+pub fn add_sized(
+    plan: Result<Plan<'_>, Refused>,
+    card: u32,
+    output: &mut [u8; LENT_PLAN],
+) -> Result<usize, Refused>
+    requires { IfOk plan Known }
+    ensures says { IfOk plan.entry (λ p. NewPlanIs (add_refusal 0 p.cards p.links card) (more_bytes p.bytes.now card) (new_plan_of result) output.old output.new) }
+    ensures before { IfErr plan.entry (λ e. (result ≡ Err e) × (output.new ≡ output.old)) }
+{
+    add_known(plan?, card, output)
+}
+
+// Takes the last card off a plan, or hands on a refusal that comes in its place.
+pub fn take_off_sized(
+    plan: Result<Plan<'_>, Refused>,
+    output: &mut [u8; LENT_PLAN],
+) -> Result<usize, Refused>
+    requires { IfOk plan Known }
+    ensures says { IfOk plan.entry (λ p. NewPlanIs (off_refusal 0 (last_hangs (plan_wiring p.bytes.now))) (fewer_bytes p.bytes.now) (new_plan_of result) output.old output.new) }
+    ensures before { IfErr plan.entry (λ e. (result ≡ Err e) × (output.new ≡ output.old)) }
+{
+    take_off_known(plan?, output)
 }

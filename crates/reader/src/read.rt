@@ -1,5 +1,5 @@
 // Reading a plan: refusal 13, by comparison with the plan that the planner writes for the wiring inside; and a card's address.
-ghost use Rattle.std.specs.Prelude.{◌≡◌, ◌+◌, ◌*◌, ◌≤◌, ◌↔◌, ◌++◌, length, take, drop, slice_index, EachIndex, IfOk, IsTrue};
+ghost use Rattle.std.specs.Prelude.{◌≡◌, ◌+◌, ◌*◌, ◌≤◌, ◌↔◌, ◌++◌, length, take, drop, slice_index, EachIndex, Err, IfErr, IfOk, IsTrue};
 ghost use Rattle.reader.specs.Plan.{content_holds};
 ghost use Rattle.reader.specs.ReadPlans.{plan_of};
 ghost use Rattle.reader.specs.Reading.{AddressSays, PartIs, ReadSays, address_refusal, card_refusal, sizes_of};
@@ -69,10 +69,19 @@ pub fn address_in<'a>(plan: Plan<'a>, card: u32) -> Result<&'a [u8], Refused>
     Ok(plan.address(c))
 }
 
+// The same of a plan, or of a refusal that comes in its place and is handed on.
+pub fn address_sized<'a>(sized: Result<Plan<'a>, Refused>, card: u32) -> Result<&'a [u8], Refused>
+    ensures part { IfOk sized.entry (λ p. IfOk result (PartIs 0 p.bytes.now p.bytes.ref_ptr card)) }
+    ensures refusal { IfOk sized.entry (λ p. number_of result ≡ card_refusal 0 p.cards card) }
+    ensures before { IfErr sized.entry (λ e. result ≡ Err e) }
+{
+    address_in(sized?, card)
+}
+
 // A card's address, as that part of the plan's own bytes: 12, 13, 14.
 pub fn card_address(plan: &[u8], card: u32) -> Result<&[u8], Refused>
     ensures part { IfOk result (AddressSays plan.now plan.entry.ref_ptr card) }
     ensures refusal { number_of result ≡ address_refusal plan.now card }
 {
-    address_in(read_plan(plan)?.plan, card)
+    address_sized(Ok(read_plan(plan)?.plan), card)
 }

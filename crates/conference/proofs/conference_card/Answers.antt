@@ -1,17 +1,20 @@
 -- The number that reading answers comes before 14, and a plan that was read is measured. Assumes nothing.
-use Rattle.std.proofs.lemmas.Result.{err_from_is_err_and}
+use mathlib.Core.Path.{ap}
+use mathlib.Core.List.{List}
+use Prim.Native.Nat.{ℕ}
+use Rattle.std.specs.Borrow.{Bor}
+use Rattle.std.proofs.lemmas.Result.{IfOk-weaker}
 use Rattle.conference.specs.Conference.{conference_refusal}
-use Rattle.conference.proofs.Answers.{says_before}
+use Rattle.conference.proofs.Answers.{says_behind, promise_behind}
 use Rattle.conference.proofs.conference_card.Goals as goal
 
-pub returns-in_err-read_plan-clause-says : goal.returns-in_err-read_plan-clause-says
+pub returns : goal.returns
 unfolding conference_refusal
-returns-in_err-read_plan-clause-says c =
-    let p = err_from_is_err_and c.from_residual.result c.from_residual.ensures.1 in
-    rw (p.1, p.2, ← c.in_err-read_plan.ensures.says.number) (says_before _ _ _ _ _)
-
-pub returns-clause-says : goal.returns-clause-says
-unfolding conference_refusal
-returns-clause-says c =
-    let read = c.in_ok-read_plan.ensures in
-    rw (← read.says.number) (rw read.bytes at c.conference_sized.ensures.says)
+returns c =
+    let read = c.read_plan.ensures in
+    let same = IfOk-weaker c.read_plan.result _ _ (λ r e. ap (λ (p : Bor (List ℕ)). p.now) e) read.bytes in
+    let answer = c.conference_sized.ensures in
+    record {
+      says = says_behind _ _ _ _ _ _ c.read_plan.result read.says same answer.says answer.before;
+      promise = promise_behind _ _ _ _ _ c.read_plan.result same answer.promise answer.before;
+    }

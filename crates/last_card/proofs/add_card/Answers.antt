@@ -27,7 +27,7 @@ returns-in_err-length c =
     let read = c.in_ok-read.ensures in
     rw (p.1, p.2)
     (adding_refused c.args.plan.now _ c.in_ok-read.read.plan read.says c.args.output.now _ lent.long _ _
-    (rw (read.bytes, lent.same) at c.in_err-length.ensures))
+    (rw (read.bytes, lent.same) at c.in_err-length.ensures.says))
 
 pub overflow_add-result : goal.overflow_add-result
 overflow_add-result c =
@@ -39,7 +39,7 @@ hops_from-requires c =
     let lent = c.in-Some.ensures.cases in
     let read = c.in_ok-read.ensures in
     let inside = add_inside c.args.plan.now _ c.in_ok-read.read.plan read.says c.args.output.now _ lent.long c.args.card _
-    (rw (read.bytes, lent.same) at c.in_ok-length.ensures) in
+    (rw (read.bytes, lent.same) at c.in_ok-length.ensures.says) in
     inside
 
 pub overflow_add-result-2 : goal.overflow_add-result-2
@@ -58,4 +58,4 @@ returns c =
     let lent = c.in-Some.ensures.cases in
     let read = c.in_ok-read.ensures in
     add_answered c.args.plan.now _ c.in_ok-read.read.plan read.says c.args.output.now _ lent.long c.args.card _
-    (rw (read.bytes, lent.same) at c.in_ok-length.ensures) _ (rw read.bytes at c.hops_from.ensures)
+    (rw (read.bytes, lent.same) at c.in_ok-length.ensures.says) _ (rw read.bytes at c.hops_from.ensures)

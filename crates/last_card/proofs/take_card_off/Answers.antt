@@ -27,7 +27,7 @@ returns-in_err-length c =
     let read = c.in_ok-read.ensures in
     rw (p.1, p.2)
     (taking_off_refused c.args.plan.now _ c.in_ok-read.read.plan read.says c.args.output.now _ lent.long _
-    (rw (read.bytes, lent.same) at c.in_err-length.ensures))
+    (rw (read.bytes, lent.same) at c.in_err-length.ensures.says))
 
 pub hops_from-requires : goal.hops_from-requires
 hops_from-requires c = omega (arith, c.in_ok-read.read.plan.sized.some)
@@ -39,7 +39,7 @@ overflow_sub-result c =
     omega (
       arith,
       rw read.bytes at c.hops_from.ensures,
-      take_off_sum c.args.plan.now _ c.in_ok-read.read.plan read.says c.args.output.now _ lent.long _ (rw (read.bytes, lent.same) at c.in_ok-length.ensures),
+      take_off_sum c.args.plan.now _ c.in_ok-read.read.plan read.says c.args.output.now _ lent.long _ (rw (read.bytes, lent.same) at c.in_ok-length.ensures.says),
     )
 
 pub returns : goal.returns
@@ -47,4 +47,4 @@ returns c =
     let lent = c.in-Some.ensures.cases in
     let read = c.in_ok-read.ensures in
     take_off_answered c.args.plan.now _ c.in_ok-read.read.plan read.says c.args.output.now _ lent.long _
-    (rw (read.bytes, lent.same) at c.in_ok-length.ensures) _ (rw read.bytes at c.hops_from.ensures)
+    (rw (read.bytes, lent.same) at c.in_ok-length.ensures.says) _ (rw read.bytes at c.hops_from.ensures)

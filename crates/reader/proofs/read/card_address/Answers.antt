@@ -12,8 +12,8 @@ pub returns : goal.returns
 returns c =
     let p = c.in_ok-read_plan.field-0.plan in
     let read = c.in_ok-read_plan.ensures in
-    let part = rw read.bytes at c.address_in.ensures.part in
-    let holds = address_read c.args.plan.now c.args.plan.ref_ptr c.args.card p read.says _ c.address_in.ensures.refusal part in
+    let part = rw read.bytes at c.address_sized.ensures.part in
+    let holds = address_read c.args.plan.now c.args.plan.ref_ptr c.args.card p read.says _ c.address_sized.ensures.refusal part in
     record {
       part = holds.0;
       refusal = holds.1;

@@ -4,7 +4,7 @@ use Rattle.rack.specs.declared.refused.Refused.TheVariants.{NotLast}
 use Rattle.plan_parts.proofs.Searching.{hangs_linked}
 use Rattle.plan_changer.proofs.Refused.{not_hanging_refused, hanging_clear}
 use Rattle.plan_changer.proofs.Answers.{plan_refused, plan_left}
-use Rattle.plan_changer.proofs.take_off_sized.Goals as goal
+use Rattle.plan_changer.proofs.take_off_known.Goals as goal
 
 pub returns-then-not-last_hangs : goal.returns-then-not-last_hangs
 returns-then-not-last_hangs c =

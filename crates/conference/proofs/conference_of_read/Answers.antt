@@ -2,8 +2,8 @@
 use Rattle.std.proofs.Common.{refl, inl, inr, arith}
 use Rattle.conference.proofs.Answers.{says_outside, says_lowest}
 use Rattle.conference.proofs.Promises.{with_promise}
-use Rattle.conference.proofs.conference_sized.Goals as goal
-use Rattle.conference.proofs.conference_sized.Goals.{then-plan-a-via-then-plan-a, then-plan-a-via-else-plan-a+then-plan-b, then-plan-a-via-else-plan-a+else-plan-b+then-plan-c}
+use Rattle.conference.proofs.conference_of_read.Goals as goal
+use Rattle.conference.proofs.conference_of_read.Goals.{then-plan-a-via-then-plan-a, then-plan-a-via-else-plan-a+then-plan-b, then-plan-a-via-else-plan-a+else-plan-b+then-plan-c}
 
 pub returns-then-plan-a-clause-says : goal.returns-then-plan-a-clause-says
 returns-then-plan-a-clause-says c =

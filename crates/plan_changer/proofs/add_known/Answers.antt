@@ -3,7 +3,7 @@ use Rattle.std.proofs.Common.{inl, inr, ⊎_elim, refl, arith}
 use Rattle.rack.specs.declared.refused.Refused.TheVariants.{NoCard, Largest}
 use Rattle.plan_changer.proofs.Refused.{card_outside, full_refused, card_fits}
 use Rattle.plan_changer.proofs.Answers.{plan_refused, plan_left}
-use Rattle.plan_changer.proofs.add_sized.Goals as goal
+use Rattle.plan_changer.proofs.add_known.Goals as goal
 
 pub returns-then-plan-c : goal.returns-then-plan-c
 returns-then-plan-c c = plan_refused _ _ _ NoCard (card_outside 0 _ _ _ refl (omega arith)) (λ e. omega arith)
