@@ -14,7 +14,7 @@ use Rattle.rack.proofs.Logic.{by_bool, by_eq}
 use Rattle.rack.proofs.Refusals.{cond_zero}
 use Rattle.rack.specs.PlanFile.{plan_cards, plan_columns, plan_bit}
 use Rattle.reader.specs.Reading.{layout_refusal}
-use Rattle.forwarder.specs.Forwarding.{Step, step_of, step_seen, step, walk}
+use Rattle.forwarder.specs.Forwarding.{step_seen, step, walk}
 use Rattle.forwarder.specs.Calls.{Stepped, Walked, stepped_of, lent_met, walk_hops, step_refusal, walk_refusal, StepSays, WalkSays}
 use Rattle.forwarder.specs.declared.step.Step.{Step as Onward}
 use Rattle.forwarder.specs.declared.step.Step.TheVariants.{Stuck, Arrived}
@@ -68,11 +68,6 @@ module _ (ps : List ℕ) (a b : ℕ) where
       let t = eq-eqb (step_refusal ps a b) 0 e in
       record { number = sym e; outcome = rw (t, f) refl; link = rw (t, f) refl; far = rw (t, f) refl }
 
-  pub far_is_card : (i c : ℕ) → step_of 2 i c ≡ step ps a b → c < plan_cards ps
-  far_is_card i c e =
-      let far = step_far_below ps a b (ap (λ (s : Step). s.outcome) (sym e)) in
-      rw (← e) at far
-
   -- A STEP that is not over a link crosses none, and else what lies between its card and the far card
   module _ (r : Stepped) (s : StepSays ps a b r) where
     pub step_clear : r.outcome ≡ 2 → step_refusal ps a b ≡ 0
@@ -83,6 +78,12 @@ module _ (ps : List ℕ) (a b : ℕ) where
 
     step_far : step_refusal ps a b ≡ 0 → r.far ≡ (step ps a b).far
     step_far e = rw (eq-eqb (step_refusal ps a b) 0 e) at s.far
+
+    -- the plan has a layout, the step's card and the far card
+    pub step_cards : r.outcome ≡ 2 → (layout_refusal ps ≡ 0) × (a < plan_cards ps) × (r.far < plan_cards ps)
+    step_cards o =
+        let e = step_clear o in
+        (answered_layout ps a b e, (answered_cards ps a b e).0, rw (step_far e) (step_far_below ps a b (step_outcome e ∙ o)))
 
     pub step_link : step_refusal ps a b ≡ 0 → r.link ≡ (step ps a b).link
     step_link e = rw (eq-eqb (step_refusal ps a b) 0 e) at s.link
@@ -126,17 +127,17 @@ module _ (ps : List ℕ) (a b : ℕ) where
       answered_goes_on n = hops_go_on ps a b (omega (arith, walk_hops_said (walk_clear n)))
 
       -- the second card met
-      pub second_met : r.hops ≢ 0 → get_or new 1 0 ≡ (step ps a b).far
+      pub second_met : r.hops ≢ 0 → (2 ≤ length new) × (get_or new 1 0 ≡ (step ps a b).far)
       second_met n =
           let g = answered_goes_on n in
           let met = rw (walk_answered (walk_clear n), g.met) at s.met in
-          rw met refl
+          (rw met (omega arith), rw met refl)
 
       -- the plan has a layout, and the first two cards met
       pub walk_cards : r.hops ≢ 0 → (layout_refusal ps ≡ 0) × (a < plan_cards ps) × (get_or new 1 0 < plan_cards ps)
       walk_cards n =
           let e = walk_steps (walk_clear n) in
-          (answered_layout ps a b e, (answered_cards ps a b e).0, rw (second_met n) (step_far_below ps a b (answered_goes_on n).over))
+          (answered_layout ps a b e, (answered_cards ps a b e).0, rw (second_met n).1 (step_far_below ps a b (answered_goes_on n).over))
 
     pub walk_crosses_none : (r : FrameWalk) → WalkSays ps a b t r.walked old new → r.walked.hops ≡ 0 → r.crossed ≡ no_column
         → FrameWalkSays ps a b t r old new
@@ -152,5 +153,5 @@ module _ (ps : List ℕ) (a b : ℕ) where
         → DifferingColumn ps a (get_or new 1 0) r.crossed → FrameWalkSays ps a b t r old new
     walk_crosses_column r s n d =
         let first = walk_first ps a b ∙ column_over ps a b (answered_goes_on r.walked s n).over in
-        let column = first ∙ ap (plan_differing ps a) (sym (second_met r.walked s n)) in
+        let column = first ∙ ap (plan_differing ps a) (sym (second_met r.walked s n).1) in
         record { walked = s; crossed = rw (walk_clear r.walked s n, column) d }

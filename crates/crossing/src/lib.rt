@@ -6,9 +6,7 @@ ghost use Rattle.rack.specs.PlanFile.{plan_wiring};
 ghost use Rattle.forwarder.specs.Calls.{Arrived, CanTake, Frame, Full};
 ghost use Rattle.crossing.specs.Crossing.{FrameStepSays, FrameWalkSays, frame_step_of, frame_walk_of};
 
-use counting::ones::ones_table;
-use counting::plans::CountedPlan;
-use forwarder::step::{Step, frame_plan, step_between};
+use forwarder::step::{Step, step_checked};
 use forwarder::walk::{Tally, Walked, walk_counted};
 use places::first_column;
 use rack::refused::Refused;
@@ -34,16 +32,15 @@ pub struct FrameWalk {
 pub fn step_frame(plan: &[u8], from: u32, goal: u32) -> Result<FrameStep, Refused>
     ensures { FrameStepSays plan.now from goal (frame_step_of result) }
 {
-    let sized = frame_plan(plan, from, goal)?;
-    let ones = ones_table();
-    let counted = CountedPlan {
-        ones: &ones,
-        plan: sized,
-    };
-    let step = step_between(counted, from as usize, goal as usize);
+    let step = step_checked(plan, from, goal)?;
     let crossed = match step {
-        Step::Over { far, .. } => first_column(sized, from as usize, far as usize),
-        Step::Stuck | Step::Arrived => None,
+        Step::Over { far, .. } => {
+            // A step does not hand back the plan with its sizes, so they are read once more.
+            let sized = plan_layout(plan)?;
+            first_column(sized, from as usize, far as usize)
+        }
+        Step::Stuck => None,
+        Step::Arrived => None,
     };
     Ok(FrameStep { step, crossed })
 }

@@ -5,11 +5,11 @@ use mathlib.Core.Logic.{◌≢◌}
 use mathlib.Core.List.{List}
 use Prim.Native.Nat.{ℕ, ◌≤◌, ◌<◌}
 use native.Mathlib.Omega.{arith}
-use lib.Dec.{ltb}
+use lib.Dec.{eqb, ltb}
 use borrow.Author.Tests.{eq-eqb, ne_eqb, ltb-true, lt-ltb, le-ltb}
 use Rattle.rack.specs.Lists.{lowest}
 use Rattle.rack.specs.Wiring.{Link, Wiring, link_count, link_at, touches, other_end}
-use Rattle.rack.proofs.Logic.{by_eq, by_lt, and_left, and_right}
+use Rattle.rack.proofs.Logic.{by_bool, by_eq, by_lt, and_left, and_right}
 use Rattle.rack.proofs.Paths.{other_end_below}
 use Rattle.rack.proofs.Tables.{lowest_passes, lowest_least, lowest_is}
 use Rattle.rack.specs.PlanFile.{plan_cards, plan_wiring, plan_hamming}
@@ -68,6 +68,15 @@ module _ (ps : List ℕ) where
   pub step_stuck : (a b : ℕ) → a ≢ b → link_count inner ≤ next_link a b → step ps a b ≡ step_of 0 0 0
   unfolding step
   step_stuck a b n h = rw (ne_eqb a b n, le-ltb (next_link a b) (link_count inner) h) refl
+
+  pub step_outcome_le : (a b : ℕ) → (step ps a b).outcome ≤ 2
+  unfolding step
+  step_outcome_le a b =
+      by_bool (eqb a b)
+      (λ (t : eqb a b ≡ true). rw t (omega arith))
+      (λ (t : eqb a b ≡ false). rw t (by_bool (ltb (next_link a b) (link_count inner))
+      (λ (u : ltb (next_link a b) (link_count inner) ≡ true). rw u (omega arith))
+      (λ (u : ltb (next_link a b) (link_count inner) ≡ false). rw u (omega arith))))
 
   -- a step over a link: it leads nearer
   pub record Over (a b : ℕ) : Type 0 where
