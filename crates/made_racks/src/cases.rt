@@ -3,10 +3,9 @@ use crate::lent::{lent, output};
 use crate::lines::cell;
 use crate::plans::{changed, walk};
 use crate::wirings::{fault, rack};
-use std::io;
 
 // A case by its kind.
-fn case(rt: &impl Print, line: &str) -> io::Result<()> {
+fn case(rt: &impl Print, line: &str) {
     match cell(line, 0) {
         "rack" => rack(rt, line),
         "fault" => fault(rt, line),
@@ -14,17 +13,16 @@ fn case(rt: &impl Print, line: &str) -> io::Result<()> {
         "output" => output(rt, line),
         "changed" => changed(rt, line),
         "walk" => walk(rt, line),
-        _ => Ok(()),
+        _ => {}
     }
 }
 
-// Each line of a text as a case.
-pub fn each_case(rt: &impl Print, text: &str) -> io::Result<()> {
+// Each line of a text as a case. Nothing tells of output that fails; the next line is tried all the same.
+pub fn each_case(rt: &impl Print, text: &str) {
     for line in text.lines() {
-        case(rt, line)?;
-        println!(rt;)?;
+        case(rt, line);
+        let _ = println!(rt;);
     }
-    Ok(())
 }
 
 // Racks by rules: rule, cards, links, mixed or not, and a walk from one card to another. The first three are those that

@@ -5,7 +5,6 @@ use crate::shapes::ring;
 use forwarder::walk::{LENT_MET, Tally};
 use planner::write_plan;
 use rack::limits::{LENT_PLAN, MOST_CARDS};
-use std::io;
 
 // One card more than a walk needs room for.
 const MORE_MET: usize = LENT_MET + 1;
@@ -22,21 +21,21 @@ fn ring_plan(line: &str) -> [u8; LENT_PLAN] {
 }
 
 // Reads such a plan, takes a step, walks a frame, and asks for an address.
-pub fn changed(rt: &impl Print, line: &str) -> io::Result<()> {
+pub fn changed(rt: &impl Print, line: &str) {
     let bytes = ring_plan(line);
     let plan = &bytes[..number_to(line, 4, LENT_PLAN)];
     let from = number(line, 5);
     let goal = number(line, 6);
     let mut met = [7u16; LENT_MET];
-    rt.print(cell(line, 7))?;
-    read(rt, plan)?;
-    stepped(rt, plan, from, goal)?;
-    walked(rt, plan, from, goal, Tally { frames: 5, hops: 6 }, &mut met)?;
-    addressed(rt, plan, goal)
+    let _ = rt.print(cell(line, 7));
+    read(rt, plan);
+    stepped(rt, plan, from, goal);
+    walked(rt, plan, from, goal, Tally { frames: 5, hops: 6 }, &mut met);
+    addressed(rt, plan, goal);
 }
 
 // Walks a frame on such a plan with counts handed in, and room for some cards.
-pub fn walk(rt: &impl Print, line: &str) -> io::Result<()> {
+pub fn walk(rt: &impl Print, line: &str) {
     let bytes = ring_plan(line);
     let plan = &bytes[..number_to(line, 4, LENT_PLAN)];
     let tally = Tally {
@@ -45,7 +44,7 @@ pub fn walk(rt: &impl Print, line: &str) -> io::Result<()> {
     };
     let mut met = [7u16; MORE_MET];
     let room = number_to(line, 9, MORE_MET);
-    rt.print(cell(line, 10))?;
+    let _ = rt.print(cell(line, 10));
     walked(
         rt,
         plan,
@@ -53,5 +52,5 @@ pub fn walk(rt: &impl Print, line: &str) -> io::Result<()> {
         number(line, 6),
         tally,
         &mut met[..room],
-    )
+    );
 }
