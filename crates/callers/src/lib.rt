@@ -9,7 +9,7 @@ use forwarder::walk::LENT_MET;
 use rack::refused::Refused;
 use reader::layout::plan_layout;
 use traffic::{Traffic, caller_fault};
-use turns::frames::Frame;
+use turns::frames::{LEAST_FRAME, frame_caller, frame_goal};
 
 // Whether a walk arrived or is stuck, its hops, the first column crossed, and the counts handed back.
 #[derive(Clone, Copy, Debug, PartialEq, Eq)]
@@ -21,6 +21,8 @@ pub struct CallerWalk {
 }
 
 // A walk by caller: 1, 12, 18, 14, 15. The counts go in and come back; only the caller's are raised, and stuck is an answer that changes none.
+// Inlined, so that the walk of a lent frame does not copy the record of counts once more.
+#[inline]
 pub fn walk_by_caller(
     plan: &[u8],
     from: u32,
@@ -63,6 +65,16 @@ pub fn walk_lent(
         return Err(Refused::Lent);
     };
     plan_layout(plan)?;
-    let read = Frame::read(frame)?;
-    walk_by_caller(plan, from, read.goal, read.caller as u32, traffic, met)
+    // Tested here and not by `Frame::read`, whose caller, a number that indexes, would have to become a `u32` again.
+    if frame.len() < LEAST_FRAME {
+        return Err(Refused::NoFrame);
+    }
+    walk_by_caller(
+        plan,
+        from,
+        frame_goal(frame),
+        frame_caller(frame),
+        traffic,
+        met,
+    )
 }

@@ -3,7 +3,6 @@ use Rattle.std.proofs.Common.{sym, ◌∙◌, arith}
 use Rattle.std.proofs.lemmas.Result.{err_from_is_err_and}
 use Rattle.rack.specs.declared.refused.Refused.TheVariants.{Lent, NoFrame}
 use Rattle.rack.proofs.RefusalNumbers.{refusal_numbered}
-use Rattle.turns.specs.Turns.{frame_caller}
 use Rattle.callers.proofs.Refused.{lent_no_room, lent_no_plan, lent_short}
 use Rattle.callers.proofs.Answers.{refused_is, lent_answered}
 use Rattle.callers.proofs.Delivery.{with_lent_delivery}
@@ -31,29 +30,23 @@ returns-in_err-plan_layout c =
       full = holds.1.1;
     })
 
-pub returns-in_err-read : goal.returns-in_err-read
-returns-in_err-read c =
-    let p = err_from_is_err_and c.from_residual-in_err-read.result c.from_residual-in_err-read.ensures.1 in
-    let short = c.in_err-read.ensures in
+pub returns-then-frame-lt-LEAST_FRAME : goal.returns-then-frame-lt-LEAST_FRAME
+returns-then-frame-lt-LEAST_FRAME c =
     let holds = with_lent_delivery _ _ _ _ _ _ _
     (refused_is _ _ _ _ _ _ NoFrame _
-    (lent_short _ _ _ _ _ c.in-Some.ensures.cases.long (sym c.in_ok-plan_layout.ensures.says.number) short.0)) in
-    rw (p.1, p.2, short.1, c.in-Some.ensures.cases.same) (record {
+    (lent_short _ _ _ _ _ c.in-Some.ensures.cases.long (sym c.in_ok-plan_layout.ensures.says.number) (omega (arith, c.if-frame-lt-LEAST_FRAME.true)))) in
+    rw c.in-Some.ensures.cases.same (record {
       says = holds.0;
       arrives = holds.1.0;
       full = holds.1.1;
     })
 
-pub overflow_cast-read : goal.overflow_cast-read
-unfolding frame_caller
-overflow_cast-read c = omega (arith, c.in_ok-read.ensures.2, c.type_inv.frame 2)
-
 pub returns : goal.returns
 returns c =
-    let read = c.in_ok-read.ensures in
     let holds = with_lent_delivery _ _ _ _ _ _ _
     (lent_answered _ _ _ _ _ _ _ c.in-Some.ensures.cases.long (sym c.in_ok-plan_layout.ensures.says.number)
-    read.0 read.1 read.2 (rw c.in-Some.ensures.cases.same at c.walk_by_caller.ensures.says)) in
+    (omega (arith, c.if-frame-lt-LEAST_FRAME.false)) c.frame_goal.ensures c.frame_caller.ensures
+    (rw c.in-Some.ensures.cases.same at c.walk_by_caller.ensures.says)) in
     record {
       says = holds.0;
       arrives = holds.1.0;
