@@ -18,8 +18,8 @@ use link_order::breadth::Breadth;
 use rack::limits::LENT_WORDS;
 use rack::views::SizedFile;
 
-mod labels;
-mod sets;
+pub mod labels;
+pub mod sets;
 
 // Guesses the columns of a file, and puts the addresses that they give into the words; gives the number of columns, or none where no labels
 // fit. A card is led up to card 0 over the first of its links that do, or with `last` over the last.

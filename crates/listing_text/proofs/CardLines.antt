@@ -1,17 +1,30 @@
--- Card lines: an address, and room for their parts. Assumes nothing.
+-- Card lines: a bit as a digit, an address, and room for their parts. Assumes nothing.
 use mathlib.Core.Path.{◌≡◌, refl, ap, ◌∙◌}
 use mathlib.Core.Bool.{Bool}
 use mathlib.Core.Logic.{◌≢◌}
 use mathlib.Core.List.{List, ◌++◌}
-use Prim.Native.Nat.{ℕ, ◌+◌, ◌-◌, ◌≤◌, ◌<◌}
+use Prim.Native.Nat.{ℕ, zero, suc, ◌+◌, ◌-◌, ◌/◌, ◌%◌, ◌^◌, ◌≤◌, ◌<◌}
+use native.Mathlib.Nat.{mod-lt}
 use native.Mathlib.Omega.{arith}
+use lib.Dec.{eqb}
 use lib.ListN.{length}
 use borrow.Author.Tests.{eq-eqb, ne_eqb}
-use Rattle.rack.specs.Lists.{tabulate, blocks}
+use Rattle.rack.specs.Lists.{one, tabulate, blocks}
+use Rattle.rack.specs.Bits.{number_bit}
 use Rattle.rack.proofs.Tables.{length_tabulate, blocks_add, blocks_snoc}
 use Rattle.text.specs.Decimals.{decimal}
 use Rattle.listing_text.specs.Listing.{card_word, space, dash, line_end, column_digit, address_text, card_line}
 use Rattle.rack.proofs.Putting.{room_first}
+
+-- A BIT as a digit
+one_of_two : (x : ℕ) → x < 2 → one (eqb x 1) ≡ x
+one_of_two zero h = refl
+one_of_two (suc zero) h = refl
+one_of_two (suc (suc x)) h = absurd (omega arith)
+
+pub one_number_bit : (x i : ℕ) → one (number_bit x i) ≡ x / 2 ^ i % 2
+unfolding number_bit
+one_number_bit x i = one_of_two (x / 2 ^ i % 2) (mod-lt (x / 2 ^ i) (omega arith))
 
 -- AN ADDRESS: a dash, or its columns
 pub address_none : (k : ℕ) (row : ℕ → Bool) → k ≡ 0 → address_text k row ≡ dash

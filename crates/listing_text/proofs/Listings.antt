@@ -21,7 +21,8 @@ use Rattle.rack.proofs.RefusalNumbers.{refusal_numbered}
 use Rattle.rack.proofs.WiringFile.{Sized, wiring_at_cards, wiring_at_count}
 use Rattle.planner.specs.OpenColumns.{bit_in, WordsOf}
 use Rattle.rack.specs.Words.{word_bit}
-use Rattle.planner.specs.Answer.{answer_of}
+use Rattle.planner.specs.Answer.{Answer, answer_of}
+use Rattle.planner.specs.Planning.{AnswerIs}
 use Rattle.planner.proofs.AddressWords.{word_bit_column}
 use Rattle.rack.proofs.Putting.{grown_written, grown_long}
 use Rattle.planner.proofs.PlanAnswer.{left_untouched, left_filled}
@@ -99,3 +100,10 @@ listing_says_text bs text now n room l e w =
       answer = rw (eq-eqb (length text) lent_text room) (record { number = refl; at = refl; value = e });
       text_left = left_filled 0 (listing bs) text now refl l w.is;
     }
+
+-- in a buffer of its length the value is the listing's
+pub says_length : (bs : List ℕ) (r : Answer) (text now : List ℕ) → length text ≡ lent_text → ListingSays bs r text now → r.value ≡ length (listing bs)
+unfolding listing_refusal
+says_length bs r text now room s =
+    let a : AnswerIs (refusal 0 0) (length (listing bs)) r = rw (eq-eqb (length text) lent_text room) at s.answer in
+    a.value
